@@ -1,7 +1,8 @@
 #!/usr/bin/env python3
 """Writes the auditor's book of a clause: all definitions that it cites, directly or not, as a page of Markdown in build/book.
 
-`book.py CLAUSE` takes a clause of `run`, `book.py CALL.CLAUSE` one of any public call; without a word all clauses of `run` are taken.
+`book.py CLAUSE` takes a clause of `run`, `book.py CLAUSE.FIELD` a field of its record, and `book.py CALL.CLAUSE` a clause of any public call.
+A word that may be either is a field. Without a word all clauses of `run` are taken.
 """
 
 import re
@@ -342,9 +343,15 @@ def write_book(sources, call, clause):
     for trait, _, line in members:
         walk.follow(trait.name, line, *imports_of(trait.path.read_text().splitlines()), {})
     pages = walk.pages
-    page = clause_part(call, clause, members) + contents_part(sources, pages)
+    write_page(sources, pages, clause_part(call, clause, members), f"{call.title().replace('::', '_')}.{clause.name}")
+    return pages.missing
+
+
+def write_page(sources, pages, first, name):
+    """Writes a page with this first part, and prints how long it is."""
+    page = first + contents_part(sources, pages)
     page += type_part(pages) + definition_part(sources, pages) + kit_part(pages)
-    target = ROOT / "build" / "book" / f"{call.title().replace('::', '_')}.{clause.name}.md"
+    target = ROOT / "build" / "book" / f"{name}.md"
     target.parent.mkdir(parents=True, exist_ok=True)
     target.write_text("\n".join(page) + "\n")
     print(
@@ -352,7 +359,47 @@ def write_book(sources, call, clause):
         f"{lines_in(pages.definitions.values())} lines; {len(pages.types)} types in {lines_in(pages.types.values())} lines; "
         f"{sum(map(len, pages.kit.values()))} names of the kit"
     )
-    return pages.missing
+
+
+def cited_by(sources, call, clause):
+    """Returns what a clause cites, in the order in which it is found."""
+    walk = Walk(sources)
+    walk.follow(call.name, clause.text, *imports_of(call.path.read_text().splitlines()), {})
+    return walk.pages.definitions.values()
+
+
+def field_lines(definition, name):
+    """Returns the lines of a record's field with the sentences above it, or nothing if the record has no such field."""
+    starts = [at for at, line in enumerate(definition.lines) if re.match(r"  pub \w+ :", line)]
+    for at, end in zip(starts, [*starts[1:], len(definition.lines)]):
+        if definition.lines[at].startswith(f"  pub {name} :"):
+            while definition.lines[at - 1].strip().startswith("--"):
+                at -= 1
+            while definition.lines[end - 1].strip().startswith("--"):
+                end -= 1
+            return definition.lines[at:end]
+    return []
+
+
+def field_of(sources, call, clause, name):
+    """Returns the first record of the call's crate that the clause cites and that has this field, and the field's lines, if there is one."""
+    for definition in cited_by(sources, call, clause):
+        lines = field_lines(definition, name) if definition.module.startswith(f"{call.crate}.") else []
+        if lines:
+            return definition, lines
+    return None
+
+
+def write_field(sources, call, clause, name, definition, lines):
+    """Writes the page of a clause's field, and returns the names that nothing defines."""
+    text = [line for line in lines if not line.strip().startswith("--")]
+    module = sources.modules[definition.module]
+    walk = Walk(sources)
+    walk.follow(module.name, "\n".join(text), module.imports, module.aliases, sources.named[module.name])
+    said = prose([line for line in lines if line.strip().startswith("--")], "--")
+    first = [f"# `{name}` of the clause `{clause.name}` of `{call.title()}`", "", f"`{module.path.relative_to(ROOT)}`. {said}", "", *code(text)]
+    write_page(sources, walk.pages, first, f"{call.title()}.{clause.name}.{name}")
+    return walk.pages.missing
 
 
 def clauses_wanted(word):
@@ -371,11 +418,18 @@ def clauses_wanted(word):
 
 
 def main(words):
-    wanted = clauses_wanted(words[0] if words else "")
-    if not wanted:
-        sys.exit("No public call has a clause of that name: write CLAUSE=serving, or CLAUSE=calls_are_paid_once.paid.")
+    word = words[0] if words else ""
     sources = Sources()
-    missing = {name for call, clause in wanted for name in write_book(sources, call, clause)}
+    wanted = clauses_wanted(word)
+    clause_name, _, field_name = word.partition(".")
+    of_run = clauses_wanted(clause_name) if field_name else []
+    field = field_of(sources, *of_run[0], field_name) if of_run else None
+    if field:
+        missing = set(write_field(sources, *of_run[0], field_name, *field))
+    elif wanted:
+        missing = {name for call, clause in wanted for name in write_book(sources, call, clause)}
+    else:
+        sys.exit("No public call has a clause of that name: write CLAUSE=serve, CLAUSE=replay.moments or CLAUSE=calls_are_paid_once.paid.")
     for where, module, name in sorted(missing):
         print(f"{where} cites {name} of {module}, which nothing defines", file=sys.stderr)
     sys.exit(1 if missing else 0)

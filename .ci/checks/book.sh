@@ -9,5 +9,6 @@ if ! command -v python3 >/dev/null; then
     exit 0
 fi
 python3 .ci/book.py
+python3 .ci/book.py replay.moments
 python3 .ci/clauses.py >build/clauses.md
-grep -q '^| `run` | `known`' build/clauses.md
+grep -q '^| `run` | `status`' build/clauses.md

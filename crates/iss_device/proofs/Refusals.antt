@@ -19,6 +19,7 @@ refuses a b none good reads =
       only = λ e. (none, reads);
       there = λ found. inl refl;
       untouched = λ found. alone a b good;
+      as_before = λ found six. reads;
       others = λ four six seven. absurd (four refl);
     }
 
@@ -29,15 +30,17 @@ disk_refuses a b good =
       only = λ e. cc;
       there = λ found. inr (inl refl);
       untouched = λ found. alone a b good;
+      as_before = λ found six. absurd (six refl);
       others = λ four six seven. absurd (six refl);
     }
 
-memory_refuses : (a b : World) → OpensGood a b → RefusesExactly 7 a b
-memory_refuses a b good =
+memory_refuses : (a b : World) → OpensGood a b → ReadsAlone a b → RefusesExactly 7 a b
+memory_refuses a b good reads =
     record {
       only = λ e. cc;
       there = λ found. inr (inr refl);
       untouched = λ found. alone a b good;
+      as_before = λ found six. reads;
       others = λ four six seven. absurd (seven refl);
     }
 
@@ -51,7 +54,8 @@ told_none fault x y none same opens good reads =
 pub told_refuses : (fault : OpenFault) (x y : Option World) → Told (Opens (Err fault)) x y → Told OpensGood x y → OnRefused {T = StoreNow} (Err fault) (Told ReadsAlone x y)
     → Told (RefusesExactly (opening_status fault)) x y
 told_refuses Disk x y opens good reads = told_map OpensGood (RefusesExactly 6) x y disk_refuses good
-told_refuses OutOfMemory x y opens good reads = told_map OpensGood (RefusesExactly 7) x y memory_refuses good
+told_refuses OutOfMemory x y opens good reads =
+    told_map (λ a b. OpensGood a b × ReadsAlone a b) (RefusesExactly 7) x y (λ a b p. memory_refuses a b p.0 p.1) (told_both OpensGood ReadsAlone x y good reads)
 told_refuses NotFormatted x y opens good reads = told_none NotFormatted x y (λ a found. inl found) (λ a b found. found) opens good reads
 told_refuses (BadRecord gate) x y opens good reads = told_none (BadRecord gate) x y (λ a found. inr (gate, inl found)) (λ a b found. found) opens good reads
 told_refuses (BadSpelling gate) x y opens good reads = told_none (BadSpelling gate) x y (λ a found. inr (gate, inr (inl found))) (λ a b found. found) opens good reads
@@ -77,5 +81,6 @@ opened_refuses n s a b not_device opens =
       only = λ e. absurd (not_device e);
       there = λ found. absurd (not_none s a b opens found);
       untouched = λ found. absurd (not_none s a b opens found);
+      as_before = λ found six. absurd (not_none s a b opens found);
       others = λ four six seven. record { instance = s.core.instance; rs = opens.rs; stands = opens.device_stands };
     }

@@ -29,12 +29,13 @@ pub record IsStore (device : List ℕ) : Type 0 where
   pub stands : DeviceStandsFor instance rs device
 
 -- The status is that of a bad device only if the device stands for no records by one of these faults. Then nothing was done but maybe a sync,
--- and the device reads as before. On such a device another status comes only by a fault of the disk or of memory. At any status no byte was
--- taken, and nothing was sent. So every other status means that the device stands for records.
+-- and the device reads as before. On such a device another status comes only by a fault of the disk or of memory, and at one of memory it
+-- reads as before too. At any status no byte was taken, and nothing was sent. So every other status means that the device stands for records.
 pub record RefusesExactly (status : ℕ) (a b : World) : Type 0 where
   pub only : status ≡ BAD_DEVICE → IsNoStore a.device × ReadsAlone a b
   pub there : IsNoStore a.device → (status ≡ BAD_DEVICE) ⊎ ((status ≡ DISK_FAULT) ⊎ (status ≡ OUT_OF_MEMORY))
   pub untouched : IsNoStore a.device → OnDeviceAlone a b
+  pub as_before : IsNoStore a.device → (status ≡ DISK_FAULT → ⊥) → ReadsAlone a b
   pub others : (status ≡ BAD_DEVICE → ⊥) → (status ≡ DISK_FAULT → ⊥) → (status ≡ OUT_OF_MEMORY → ⊥) → IsStore a.device
 
 -- the exit status of a run whose device doesn't open so

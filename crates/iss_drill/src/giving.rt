@@ -151,7 +151,7 @@ fn tell<E: Edge>(
     ensures kept { E.extent device.new ≡ E.extent device.old }
 {
     tally.count_answer(answer);
-    match store.tell(alloc, device, &Routes::lines(alloc), Channel(0), answer) {
+    match store.tell(alloc, device, &mut Routes::lines(alloc), Channel(0), answer) {
         Ok(()) => Ok(()),
         Err(_) => Err(AllocError),
     }

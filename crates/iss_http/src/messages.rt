@@ -4,38 +4,58 @@ ghost use Rattle.http.specs.StatusCode.{reason_phrase};
 ghost use Rattle.iss_http.specs.Messages.{respond, ask, message, crlf, IsStatus};
 
 use http::StatusCode;
+use itoa::Buffer;
 use std::alloc::{AllocError, Global};
 
 /// A response with this status, one of those in `statuses`, and a body of JSON (RFC 9112).
-///
-/// Its lines are the status with its phrase, `Content-Type: application/json`, `Content-Length`, and `Connection: close`.
-#[tactic(auto, unfolding(crate::specs::Messages::respond))]
 pub fn respond(alloc: Global, status: u16, body: &[u8]) -> Result<Vec<u8>, AllocError>
     requires { IsStatus status }
     ensures { IfOk result (λ text. text.items ≡ respond status body.now) }
 {
     let mut out = Vec::with_capacity(alloc, 256)?;
-    out.extend_from_slice(b"HTTP/1.1 ")?;
-    put_number(alloc, &mut out, u64::from(status))?;
-    out.extend_from_slice(b" ")?;
-    out.extend_from_slice(phrase(status).as_bytes())?;
-    put_end(&mut out)?;
-    put_rest(alloc, &mut out, body)?;
+    write_response(&mut out, status, body)?;
     Ok(out)
 }
 
 /// A request to the gateway, a POST to `/jit` with a body of JSON (RFC 9112).
-///
-/// Its lines are `POST /jit HTTP/1.1`, `Host: localhost`, and those of a response below its status.
-#[tactic(auto, unfolding(crate::specs::Messages::ask))]
 pub fn ask(alloc: Global, body: &[u8]) -> Result<Vec<u8>, AllocError>
     ensures { IfOk result (λ text. text.items ≡ ask body.now) }
 {
     let mut out = Vec::with_capacity(alloc, 256)?;
-    put_line(&mut out, "POST /jit HTTP/1.1")?;
-    put_line(&mut out, "Host: localhost")?;
-    put_rest(alloc, &mut out, body)?;
+    write_ask(&mut out, body)?;
     Ok(out)
+}
+
+/// Writes a response with this status, one of those in `statuses`, and a body of JSON (RFC 9112), in place of what stands there.
+///
+/// Its lines are the status with its phrase, `Content-Type: application/json`, `Content-Length`, and `Connection: close`.
+/// If an allocation fails, a part of it may be there.
+#[tactic(auto, unfolding(crate::specs::Messages::respond))]
+pub fn write_response(out: &mut Vec<u8>, status: u16, body: &[u8]) -> Result<(), AllocError>
+    requires { IsStatus status }
+    ensures { OnOk result (out.new.items ≡ respond status body.now) }
+{
+    out.clear();
+    out.extend_from_slice(b"HTTP/1.1 ")?;
+    put_number(out, u64::from(status))?;
+    out.extend_from_slice(b" ")?;
+    out.extend_from_slice(phrase(status).as_bytes())?;
+    put_end(out)?;
+    put_rest(out, body)
+}
+
+/// Writes a request to the gateway, a POST to `/jit` with a body of JSON (RFC 9112), in place of what stands there.
+///
+/// Its lines are `POST /jit HTTP/1.1`, `Host: localhost`, and those of a response below its status. If an allocation fails, a
+/// part of it may be there.
+#[tactic(auto, unfolding(crate::specs::Messages::ask))]
+pub fn write_ask(out: &mut Vec<u8>, body: &[u8]) -> Result<(), AllocError>
+    ensures { OnOk result (out.new.items ≡ ask body.now) }
+{
+    out.clear();
+    put_line(out, "POST /jit HTTP/1.1")?;
+    put_line(out, "Host: localhost")?;
+    put_rest(out, body)
 }
 
 /// The phrase of a status, as RFC 9110 has it.
@@ -50,12 +70,12 @@ fn phrase(status: u16) -> &'static str
 }
 
 /// Adds the lines on the body, and the body.
-fn put_rest(alloc: Global, out: &mut Vec<u8>, body: &[u8]) -> Result<(), AllocError>
+fn put_rest(out: &mut Vec<u8>, body: &[u8]) -> Result<(), AllocError>
     ensures { OnOk result (out.new.items ≡ message out.old.items body.now) }
 {
     put_line(out, "Content-Type: application/json")?;
     out.extend_from_slice(b"Content-Length: ")?;
-    put_number(alloc, out, body.len() as u64)?;
+    put_number(out, body.len() as u64)?;
     put_end(out)?;
     put_line(out, "Connection: close")?;
     put_end(out)?;
@@ -78,9 +98,8 @@ fn put_end(out: &mut Vec<u8>) -> Result<(), AllocError>
 }
 
 /// Adds a number in decimal digits.
-fn put_number(alloc: Global, out: &mut Vec<u8>, number: u64) -> Result<(), AllocError>
+fn put_number(out: &mut Vec<u8>, number: u64) -> Result<(), AllocError>
     ensures { OnOk result (out.new.items ≡ out.old.items ++ decimal number) }
 {
-    let digits = number.to_string(alloc)?;
-    out.extend_from_slice(digits.as_bytes())
+    out.extend_from_slice(Buffer::new().format(number).as_bytes())
 }

@@ -15,6 +15,7 @@ ghost use Rattle.iss_session.specs.declared.piece.TheConstants.{LONGEST_PIECE};
 ghost use Rattle.iss_session.specs.Hearings.{link_at};
 ghost use Rattle.iss_link.specs.Values.{subject_of, heard_of, links_at};
 ghost use Rattle.iss_link.specs.Hearing.{ReadsLink, ListensOn, MeansOutcome, TakeFaultRose, got_in, channels_after};
+ghost use Rattle.iss_link.specs.Worlds.{StillTold};
 
 use crate::Heard;
 use crate::watched::{About, Watched};
@@ -31,6 +32,7 @@ const ACKNOWLEDGED: u16 = OK;
 
 /// Takes once from a watched channel that is ready, and returns what its bytes come to. After a whole answer, the channel is closed and
 /// watched no longer.
+#[tactic(auto, using(crate::proofs::Worlds::told_some))]
 pub(crate) fn listen<E: Edge>(
     links: &mut ByChannel<Watched>,
     buffer: &mut [u8],
@@ -46,6 +48,7 @@ pub(crate) fn listen<E: Edge>(
     ensures room { length buffer.new ≡ LONGEST_PIECE }
     ensures listens { ListensOn E.channels E.faults E.told E.heard edge.old edge.new
         (links_at instance (things_of links.old)) (links_at instance (things_of links.new)) ch result }
+    ensures alone { StillTold E.told edge.old edge.new }
     ensures later { Later (E.faults edge.old) (E.faults edge.new) }
     ensures kept { Stays E.extent edge.old edge.new }
     ensures channels { IfOk result (λ said. E.channels edge.new ≡ channels_after ch (heard_of said) (E.channels edge.old)) }
@@ -74,12 +77,14 @@ fn about(links: &ByChannel<Watched>, ch: Channel) -> About
 }
 
 /// Takes the next bytes of a channel into a buffer, none at their end, and returns how many came. `None` if it failed.
+#[tactic(auto, using(crate::proofs::Worlds::told_some))]
 fn take<E: Edge>(edge: &mut E, ch: Channel, buffer: &mut [u8]) -> Option<usize>
     requires ready { (E.channels edge.old).ready ≡ Some ch.0 }
     requires room { length buffer.old ≡ LONGEST_PIECE }
     ensures room { length buffer.new ≡ LONGEST_PIECE }
     ensures bound { IfSome result (λ count. count ≤ length buffer.new) }
     ensures told { ToldBoth E.told E.heard (Adds [] (Took ch (got_in buffer.new result) ∷ [])) edge.old edge.new }
+    ensures alone { StillTold E.told edge.old edge.new }
     ensures failed { result ≡ None → TakeFaultRose ch (E.channels edge.old) (E.faults edge.old) (E.faults edge.new) }
     ensures later { Later (E.faults edge.old) (E.faults edge.new) }
     ensures kept { Stays E.extent edge.old edge.new }

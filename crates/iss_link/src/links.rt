@@ -5,6 +5,7 @@ ghost use Rattle.iss_model.specs.declared.limits.TheConstants.{INSTANCES};
 ghost use Rattle.iss_session.specs.Hearings.{link_at, links_of};
 ghost use Rattle.iss_link.specs.Values.{gone_as, heard_of, state_on};
 ghost use Rattle.iss_link.specs.Hearing.{ListensOn, channels_after};
+ghost use Rattle.iss_link.specs.Worlds.{StillTold};
 
 use crate::answers::listen;
 use crate::watched::{About, Watched};
@@ -83,6 +84,7 @@ impl Links {
         requires watched { IsSome (link_at ch self.old.links) }
         requires ready { (E.channels edge.old).ready ≡ Some ch.0 }
         ensures listens { ListensOn E.channels E.faults E.told E.heard edge.old edge.new self.old self.new ch result }
+        ensures alone { StillTold E.told edge.old edge.new }
         ensures later { Later (E.faults edge.old) (E.faults edge.new) }
         ensures kept { Stays E.extent edge.old edge.new }
         ensures channels { IfOk result (λ said. E.channels edge.new ≡ channels_after ch (heard_of said) (E.channels edge.old)) }

@@ -1,5 +1,5 @@
 -- Why a run that serves ends early, over one call after the other.
-use Rattle.std.proofs.Common.{refl, arith}
+use Rattle.std.proofs.Common.{◌≡◌, refl, arith}
 use Rattle.std.specs.Prelude.{Result, Ok, Err, IfErr, OnErr}
 use Rattle.iss_edge.specs.World.{Faults, Later, Rose}
 use Rattle.iss_edge.proofs.Tolds.{later_then, rose_later}
@@ -49,6 +49,12 @@ pub caused_commit : {A B : Type 0} (f g : Faults) (why : StoreFault) (P : Type 0
 caused_commit f g store.Disk P c l = record { later = c.later; cause = c.disk refl }
 caused_commit f g store.Output P c l = absurd l
 caused_commit f g store.OutOfMemory P c l = record { later = c.later; cause = tt }
+
+-- what was to be said failed for want of memory
+pub caused_short : {A : Type 0} (f g : Faults) (why : StoreFault) → Later f g → why ≡ store.OutOfMemory → IsServeCaused {A = A} f g (Err (fault_of_store why))
+caused_short f g store.Disk p short = absurd cc
+caused_short f g store.Output p short = absurd cc
+caused_short f g store.OutOfMemory p short = record { later = p; cause = tt }
 
 -- what holds anyway, if a call failed
 pub anyway : {T E : Type 0} (r : Result T E) (P : Type 0) → P → OnErr r P

@@ -1,4 +1,5 @@
 pub mod Quietly
+pub mod Alone
 pub mod Going
 pub mod Stages
 pub mod Waiting

@@ -4,6 +4,7 @@ use Rattle.std.specs.Prelude.{IsTrue}
 use Rattle.std.specs.List.{flat_map}
 use Rattle.std.proofs.lemmas.List.{drop_more}
 use Rattle.iss_model.specs.declared.call.CallId.{CallId}
+use Rattle.iss_session.specs.Desks.{Waiter}
 use Rattle.iss_session.specs.Links.{Link}
 use Rattle.iss_session.specs.Hearings.{links_of}
 use Rattle.iss_link.specs.declared.gone.Gone as link
@@ -63,11 +64,12 @@ next_call calls i d within = drop_more calls i d within
 -- ---- what became of messages
 
 pub still_self : (h : Held) → IsStillHeld h h
-still_self h = record { clock = refl; room = refl; instance = refl; turns = refl; calls = λ k. k; links = λ k. k }
+still_self h = record { routes = refl; clock = refl; room = refl; instance = refl; turns = refl; calls = λ k. k; links = λ k. k }
 
 pub still_then : (f g h : Held) → IsStillHeld f g → IsStillHeld g h → IsStillHeld f h
 still_then f g h p q =
     record {
+      routes = q.routes ∙ p.routes;
       clock = q.clock ∙ p.clock;
       room = q.room ∙ p.room;
       instance = q.instance ∙ p.instance;
@@ -79,6 +81,7 @@ still_then f g h p q =
 pub still_is : (f g : Held) → IsHeld f → IsStillHeld f g → IsHeld g
 still_is f g p q =
     record {
+      routes = q.routes ∙ p.routes;
       clock = subst (λ (n : ℕ). IsTrue (is_stamp n)) (sym q.clock) p.clock;
       room = q.room ∙ p.room;
       calls = q.calls p.calls;
@@ -102,6 +105,11 @@ noted_next g gone h =
     λ i.
     with_noted h (one_noted h.links.links (links_of (gone_as g)) (flat_map links_of (all_gone gone)) i)
     (one_missed h.unreached (call_unreached g) (flat_map call_unreached gone) i)
+
+-- what was noted after a call that left those who wait as they were
+pub noted_still : (h now : HeldNow) (waiting : List Waiter) (gone all : List link.Gone) → waiting ≡ h.served → all ≡ gone → now ≡ noted all (record h { served = waiting }) → now ≡ noted gone (record h { served = h.served })
+noted_still h now waiting gone all still same is =
+    subst (λ (ws : List Waiter). now ≡ noted gone (record h { served = ws })) still (subst (λ (l : List link.Gone). now ≡ noted l (record h { served = waiting })) same is)
 
 pub next_gone : (gone : List link.Gone) (i : ℕ) (g : link.Gone) → i < length gone → g ≡ get_or gone i g → drop i gone ≡ g ∷ drop (i + 1) gone
 next_gone gone i g within is = drop_more gone i g within ∙ ap (λ (x : link.Gone). x ∷ drop (i + 1) gone) (sym is)

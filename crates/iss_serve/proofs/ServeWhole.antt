@@ -1,5 +1,5 @@
 -- A run that serves, from the device's side: what was heard and done, what a stop leaves, and what the device stands for.
-use Rattle.std.proofs.Common.{◌≡◌, ℕ, ◌+◌, ◌≤◌, inl, inr, zero, suc, Bool, true, false, cond, List, [], ◌∷◌, ◌++◌, length, map, refl, sym, ap, subst, ◌∙◌, append-nil, append_assoc, arith}
+use Rattle.std.proofs.Common.{◌≡◌, ℕ, ◌+◌, ◌≤◌, inl, inr, Bool, true, false, cond, List, [], ◌∷◌, ◌++◌, length, map, refl, sym, ap, subst, ◌∙◌, append-nil, append_assoc, arith}
 use Rattle.iss_edge.specs.declared.outside.Channel.{Channel}
 use Rattle.iss_edge.specs.declared.outside.Action.{Action}
 use Rattle.iss_edge.specs.declared.outside.Action.TheVariants.{Write, Sync, Emit, Dial, Close}
@@ -121,8 +121,7 @@ records_are run turns rs happenings is =
 
 -- a status other than 0
 done_at : (status : ℕ) (s : Session) (happenings : List Happening) (done : List Step) → (status ≡ 0 → ⊥) → IsDoneInPart (steps_said s happenings) done → DoneAt status s happenings done
-done_at zero s happenings done not_done part = absurd (not_done refl)
-done_at (suc n) s happenings done not_done part = part
+done_at status s happenings done not_done part = record { whole = λ e. absurd (not_done e); part = λ other. part }
 
 module _ (turns instance : ℕ) (rs : List Record) (s : StoreNow) (a b d : Outer) (opening : OpenedAs s a.world b.world) (quiet : b.heard ≡ a.heard) (stands : DeviceStandsFor instance rs a.world.device) where
   abbrev start : Session
@@ -273,7 +272,11 @@ module _ (turns instance : ℕ) (rs : List Record) (s : StoreNow) (a b d : Outer
         later = part_steps;
         opening_alone = opening_on_device opening.good.added opening.good.on_device;
         grew = grew;
-        done = done ∙ ap (λ (m : Session). steps_said start p.happenings ++ last_steps m) (sym p.ends);
+        done =
+            record {
+              whole = λ e. done ∙ ap (λ (m : Session). steps_said start p.happenings ++ last_steps m) (sym p.ends);
+              part = λ other. absurd (other refl);
+            };
         sent = λ ch. record { unsent = []; sent = sym (sent ch) ∙ sym (append-nil (sent_on ch d.world.trace)) };
         history = part.history stands.history;
         moments = opened_moments instance rs s a.world b.world opening stands all said d.world part;

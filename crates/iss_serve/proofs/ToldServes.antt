@@ -1,11 +1,13 @@
 -- What an edge tells of a run that serves, at each of its ends.
 use Rattle.std.proofs.Common.{◌≡◌, ℕ, inl, inr, List, Option, Ok, Err, refl, arith}
-use Rattle.std.specs.Prelude.{Result, OnOk, IfErr}
+use Rattle.std.specs.Prelude.{Result, OnOk, IfErr, IsSome, ◌⊎◌}
 use Rattle.iss_edge.specs.declared.outside.Answered.{Answered}
+use Rattle.iss_edge.specs.declared.status.TheConstants.{DONE, OUT_OF_MEMORY}
 use Rattle.iss_edge.specs.World.{World, Told, Faults, Later}
 use Rattle.iss_edge.specs.Calls.{HearsNothing}
-use Rattle.iss_edge.specs.Outer.{Outer, outer_of}
+use Rattle.iss_edge.specs.Outer.{outer_of}
 use Rattle.iss_edge.proofs.Tolds.{told_map, told_then, later_then, rose_later}
+use Rattle.iss_link.proofs.Worlds.{told_some}
 use Rattle.iss_store.specs.declared.fault.OpenFault.{OpenFault}
 use Rattle.iss_store.specs.declared.fault.OpenFault.TheVariants as open_fault
 use Rattle.iss_store.specs.Values.{StoreNow}
@@ -18,7 +20,8 @@ use Rattle.iss_serve.specs.declared.fault.ServeFault.{ServeFault}
 use Rattle.iss_serve.specs.declared.fault.ServeFault.TheVariants.{Device, Wait, Disk, OutOfMemory}
 use Rattle.iss_serve.specs.Causes.{fault_of_opening, ServeCause, IsServeCaused, IsOfDisk}
 use Rattle.iss_serve.specs.Runs.{ServesToEnd, ServesUpTo}
-use Rattle.iss_serve.specs.ServeRuns.{serve_status, ServeRun, OfWorlds, EndingCause, EndsCaused, ServeEndsWell}
+use Rattle.iss_serve.specs.ServeRuns.{serve_status, ServeRun, EndingCause, EndsCaused, ServeEndsWell}
+use Rattle.iss_serve.proofs.Alone.{told_all}
 use Rattle.iss_serve.proofs.Quietly.{Quietly, told_quietly}
 use Rattle.iss_serve.proofs.ServeWhole.{stands_there, serve_part, serve_whole, not_opened}
 
@@ -85,18 +88,17 @@ module _ (turns : ℕ) (fault : OpenFault) (x y : Option World) (h k : Option (L
       (told_quietly Unopened x y h k
       (told_both (λ a b. Opens (Err fault) a b × OpensGood a b) (ReadsUnless fault) x y (told_both (Opens (Err fault)) OpensGood x y opens good) (told_unless fault x y good reads)) quiet)
 
-  pub told_unopened_refuses : OnRefused {T = StoreNow} (Err fault) (Told ReadsAlone x y) → Told (OfWorlds (RefusesExactly (ends_with (fault_of_opening fault)))) (outer_of x h) (outer_of y k)
-  told_unopened_refuses reads =
-      told_map (Quietly (RefusesExactly (ends_with (fault_of_opening fault)))) (OfWorlds (RefusesExactly (ends_with (fault_of_opening fault)))) (outer_of x h) (outer_of y k) (λ a b p. p.world)
-      (told_quietly (RefusesExactly (ends_with (fault_of_opening fault))) x y h k (same_status fault (told_refuses fault x y opens good reads)) quiet)
-    where
-      same_status : (fault : OpenFault) → Told (RefusesExactly (opening_status fault)) x y → Told (RefusesExactly (ends_with (fault_of_opening fault))) x y
-      same_status open_fault.Disk r = r
-      same_status open_fault.OutOfMemory r = r
-      same_status open_fault.NotFormatted r = r
-      same_status (open_fault.BadRecord gate) r = r
-      same_status (open_fault.BadSpelling gate) r = r
-      same_status (open_fault.BadHistory gate) r = r
+pub told_unopened_refuses : (fault : OpenFault) (x y : Option World) → Told (Opens (Err fault)) x y → Told OpensGood x y → OnRefused {T = StoreNow} (Err fault) (Told ReadsAlone x y)
+    → Told (RefusesExactly (ends_with (fault_of_opening fault))) x y
+told_unopened_refuses fault x y opens good reads = same_status fault (told_refuses fault x y opens good reads)
+  where
+    same_status : (fault : OpenFault) → Told (RefusesExactly (opening_status fault)) x y → Told (RefusesExactly (ends_with (fault_of_opening fault))) x y
+    same_status open_fault.Disk r = r
+    same_status open_fault.OutOfMemory r = r
+    same_status open_fault.NotFormatted r = r
+    same_status (open_fault.BadRecord gate) r = r
+    same_status (open_fault.BadSpelling gate) r = r
+    same_status (open_fault.BadHistory gate) r = r
 
 -- ---- a device that opens
 
@@ -117,28 +119,25 @@ module _ (turns : ℕ) (s : StoreNow) (x y z : Option World) (h k l : Option (Li
       (p.on_book rs (stands_there turns instance rs s a b d o.world o.heard stands)))
       (told_quietly (OpenedAs s) x y h k opened quiet) serves
 
-  refuses_no_more : (R : Outer → Outer → Type 0) (status : ℕ) → (status ≡ 4 → ⊥) → Told R (outer_of y k) (outer_of z l) → Told (OfWorlds (RefusesExactly status)) (outer_of x h) (outer_of z l)
-  refuses_no_more R status other serves =
-      told_then (Quietly (OpenedAs s)) R (OfWorlds (RefusesExactly status)) (outer_of x h) (outer_of y k) (outer_of z l)
-      (λ a b d o p. opened_refuses status s a.world d.world other o.world.opens) (told_quietly (OpenedAs s) x y h k opened quiet) serves
-
-  pub told_whole_refuses : Told (ServesToEnd s turns) (outer_of y k) (outer_of z l) → Told (OfWorlds (RefusesExactly 0)) (outer_of x h) (outer_of z l)
-  told_whole_refuses serves = refuses_no_more (ServesToEnd s turns) 0 (λ e. cc) serves
-
-  pub told_part_refuses : (why : ServeFault) (before now : Faults) → IsServeCaused {A = Unit {0}} before now (Err why) → Told (ServesUpTo (IsOfDisk why) s turns) (outer_of y k) (outer_of z l)
-      → Told (OfWorlds (RefusesExactly (ends_with why))) (outer_of x h) (outer_of z l)
-  told_part_refuses why before now caused serves = refuses_no_more (ServesUpTo (IsOfDisk why) s turns) (ends_with why) (not_device {A = Unit {0}} why before now caused) serves
-
   -- both, by how it ended
   pub told_served : (result : Result (Unit {0}) ServeFault) (before now : Faults) → IsServeCaused before now result → OnOk result (Told (ServesToEnd s turns) (outer_of y k) (outer_of z l))
       → IfErr result (λ why. Told (ServesUpTo (IsOfDisk why) s turns) (outer_of y k) (outer_of z l)) → Told (ServeRun turns (serve_status result)) (outer_of x h) (outer_of z l)
   told_served (Ok done) before now caused whole part = told_served_whole whole
   told_served (Err why) before now caused whole part = told_served_part why before now caused part
 
-  pub told_served_refuses : (result : Result (Unit {0}) ServeFault) (before now : Faults) → IsServeCaused before now result → OnOk result (Told (ServesToEnd s turns) (outer_of y k) (outer_of z l))
-      → IfErr result (λ why. Told (ServesUpTo (IsOfDisk why) s turns) (outer_of y k) (outer_of z l)) → Told (OfWorlds (RefusesExactly (serve_status result))) (outer_of x h) (outer_of z l)
-  told_served_refuses (Ok done) before now caused whole part = told_whole_refuses whole
-  told_served_refuses (Err why) before now caused whole part = told_part_refuses why before now caused part
+-- the same of what is told of the world alone
+module _ (s : StoreNow) (x y z : Option World) (opened : Told (OpenedAs s) x y) (alone : IsSome z → IsSome y) where
+  abbrev any : World → World → Type 0
+  any a b = Unit {0}
+
+  refuses_no_more : (status : ℕ) → (status ≡ 4 → ⊥) → Told (RefusesExactly status) x z
+  refuses_no_more status other =
+      told_then (OpenedAs s) any (RefusesExactly status) x y z (λ a b d o p. opened_refuses status s a d other o.opens) opened
+      (told_all any (λ a b. tt) y z alone)
+
+  pub told_served_refuses : (result : Result (Unit {0}) ServeFault) (before now : Faults) → IsServeCaused before now result → Told (RefusesExactly (serve_status result)) x z
+  told_served_refuses (Ok done) before now caused = refuses_no_more 0 (λ e. cc)
+  told_served_refuses (Err why) before now caused = refuses_no_more (ends_with why) (not_device {A = Unit {0}} why before now caused)
 
 -- ---- causes
 
@@ -164,14 +163,31 @@ caused_behind before middle now (Err why) first second =
 
 -- ---- the end
 
-ends_well : (turns : ℕ) (result : Result (Unit {0}) ServeFault) (before now : Faults) (a b : Outer) → EndsCaused before now result → ServeRun turns (serve_status result) a b → OfWorlds (ServeEndsWell before now (serve_status result)) a b
-ends_well turns (Ok done) before now a b caused run instance rs stands disk input = inl refl
-ends_well turns (Err Device) before now a b caused run instance rs stands disk input = absurd ((run instance rs stands).other_device refl)
-ends_well turns (Err Wait) before now a b caused run instance rs stands disk input = absurd (input caused.cause)
-ends_well turns (Err Disk) before now a b caused run instance rs stands disk input = absurd (disk caused.cause)
-ends_well turns (Err OutOfMemory) before now a b caused run instance rs stands disk input = inr refl
+unopened_well : (fault : OpenFault) (before now : Faults) (a b : World) → OpenCause {T = StoreNow} before now (Err fault) → Opens (Err fault) a b → ServeEndsWell before now (ends_with (fault_of_opening fault)) a b
+unopened_well fault before now a b cause opens instance rs stands disk input = by fault cause (good_device instance rs fault a b stands opens)
+  where
+    by : (fault : OpenFault) → OpenCause {T = StoreNow} before now (Err fault) → IsOfDiskOrMemory fault
+        → (ends_with (fault_of_opening fault) ≡ DONE) ⊎ (ends_with (fault_of_opening fault) ≡ OUT_OF_MEMORY)
+    by open_fault.Disk cause is = absurd (disk (cause.disk refl))
+    by open_fault.OutOfMemory cause is = inr refl
+    by open_fault.NotFormatted cause is = absurd is
+    by (open_fault.BadRecord gate) cause is = absurd is
+    by (open_fault.BadSpelling gate) cause is = absurd is
+    by (open_fault.BadHistory gate) cause is = absurd is
 
-pub told_ends_well : (turns : ℕ) (result : Result (Unit {0}) ServeFault) (before now : Faults) (x y : Option Outer) → EndsCaused before now result → Told (ServeRun turns (serve_status result)) x y
-    → Told (OfWorlds (ServeEndsWell before now (serve_status result))) x y
-told_ends_well turns result before now x y caused run =
-    told_map (ServeRun turns (serve_status result)) (OfWorlds (ServeEndsWell before now (serve_status result))) x y (λ a b. ends_well turns result before now a b caused) run
+pub told_unopened_ends_well : (fault : OpenFault) (before now : Faults) (x y : Option World) → OpenCause {T = StoreNow} before now (Err fault) → Told (Opens (Err fault)) x y
+    → Told (ServeEndsWell before now (ends_with (fault_of_opening fault))) x y
+told_unopened_ends_well fault before now x y cause opens =
+    told_map (Opens (Err fault)) (ServeEndsWell before now (ends_with (fault_of_opening fault))) x y (λ a b. unopened_well fault before now a b cause) opens
+
+served_well : (result : Result (Unit {0}) ServeFault) (before middle now : Faults) → Later before middle → IsServeCaused middle now result → (a b : World) → ServeEndsWell before now (serve_status result) a b
+served_well (Ok done) before middle now later caused a b instance rs stands disk input = inl refl
+served_well (Err Device) before middle now later caused a b instance rs stands disk input = absurd caused.cause
+served_well (Err Wait) before middle now later caused a b instance rs stands disk input = absurd (input (cause_behind before middle now Wait later caused.later caused.cause))
+served_well (Err Disk) before middle now later caused a b instance rs stands disk input = absurd (disk (cause_behind before middle now Disk later caused.later caused.cause))
+served_well (Err OutOfMemory) before middle now later caused a b instance rs stands disk input = inr refl
+
+pub told_served_ends_well : (s : StoreNow) (x y z : Option World) → Told (OpenedAs s) x y → (IsSome z → IsSome y) → (result : Result (Unit {0}) ServeFault) (before middle now : Faults) → Later before middle
+    → IsServeCaused middle now result → Told (ServeEndsWell before now (serve_status result)) x z
+told_served_ends_well s x y z opened alone result before middle now later caused =
+    told_all (ServeEndsWell before now (serve_status result)) (served_well result before middle now later caused) x z (λ told. told_some (OpenedAs s) x y opened (alone told))

@@ -17,7 +17,7 @@ fault_of_opening (opening.BadSpelling gate) = Device
 fault_of_opening (opening.BadHistory gate) = Device
 fault_of_opening opening.OutOfMemory = OutOfMemory
 
--- a commit that fails
+-- a commit that fails, or what is said after it
 abbrev pub fault_of_store : StoreFault → ServeFault
 fault_of_store store.Disk = Disk
 fault_of_store store.Output = Disk

@@ -18,6 +18,7 @@ use Rattle.iss_link.specs.Values.{LinksNow}
 use Rattle.iss_link.specs.declared.gone.Gone as link
 use Rattle.iss_link.specs.declared.gone.Gone.TheVariants.{Asked, Noted, Unreached}
 use Rattle.iss_store.specs.Numbers.{is_from_one}
+use Rattle.iss_store.specs.Routes.{IsServed}
 use Rattle.iss_store.specs.Values.{StoreNow, room_of}
 use Rattle.iss_store.specs.Serving.{all_gone, tasks_pending}
 use Rattle.iss_serve.specs.declared.held.Held.{Held}
@@ -35,7 +36,7 @@ pub record HeldNow : Type 0 where
 
 abbrev pub seen_held : Held → HeldNow
 seen_held h =
-    record { clients = h.clients; served = h.served; links = h.links; unreached = h.unreached.items; clock = h.clock; turns = h.turns }
+    record { clients = h.clients; served = h.routes.waiters; links = h.links; unreached = h.unreached.items; clock = h.clock; turns = h.turns }
 
 -- an input with its client's channel, as the definitions have it
 abbrev pub queued_as : QueuedInput → Queued
@@ -163,16 +164,19 @@ is_heard_in_form (acknowledged number) = is_from_one number
 is_heard_in_form unfinished = true
 is_heard_in_form (dropped number) = true
 
--- The time is a stamp, and there is room for what a take brings. The calls that weren't reached, and the calls and notices whose answers
--- are awaited, are numbered from 1.
+-- Clients are served. The time is a stamp, and there is room for what a take brings. The calls that weren't reached, and the calls and
+-- notices whose answers are awaited, are numbered from 1.
 pub record IsHeld (h : Held) : Type 0 where
+  pub routes : IsServed h.routes
   pub clock : IsTrue (is_stamp h.clock)
   pub room : length h.buffer.items ≡ LONGEST_PIECE
   pub calls : CallsNumbered h.unreached.items
   pub links : LinksNumbered h.links.links
 
--- The time, the room, the links' instance and the waits that are left are as before. Calls and notices are numbered from 1 if they were.
+-- The routes are of the same kind. The time, the room, the links' instance and the waits that are left are as before. Calls and notices
+-- are numbered from 1 if they were.
 pub record IsStillHeld (before after : Held) : Type 0 where
+  pub routes : after.routes.kind ≡ before.routes.kind
   pub clock : after.clock ≡ before.clock
   pub room : length after.buffer.items ≡ length before.buffer.items
   pub instance : after.links.instance ≡ before.links.instance

@@ -46,7 +46,7 @@ ServesTo told heard a b from result to = IfOk result (λ x. ToldBoth told heard 
 abbrev pub ServesInPart : {E T : Type 0} → (E → Option World) → (E → Option (List Answered)) → E → E → Stage → Result T ServeFault → Type 0
 ServesInPart told heard a b from result = IfErr result (λ why. ToldBoth told heard (ServesSome (IsOfDisk why) from) a b)
 
--- If memory was short, the run went on in part from this stage, and might have gone on.
+-- If the call failed, the run went on in part from this stage, and might have gone on.
 abbrev pub ServesShort : {E T F : Type 0} → (E → Option World) → (E → Option (List Answered)) → E → E → Stage → Result T F → Type 0
 ServesShort told heard a b from result = OnErr result (ToldBoth told heard (ServesSome ⊥ from) a b)
 
@@ -84,7 +84,7 @@ tasks_told q answer = answer_tasks q.client answer
 
 -- the texts that go out for a record that lasts, with what is held
 abbrev pub tasks_said : StoreNow → DurableNow → Held → List Task
-tasks_said s d h = tasks_of_record s d h.served
+tasks_said s d h = tasks_of_record s d h.routes.waiters
 
 -- If the call succeeded, these texts went out, and the inputs are left to judge, whichever they are.
 abbrev pub SendsFirst : {E T F : Type 0} → (E → Option World) → (E → Option (List Answered)) → E → E → StoreNow → Held → Held → List Task → Result T F → Type 0
@@ -92,7 +92,7 @@ SendsFirst told heard a b store before after tasks result =
     (first : List Queued)
     → OnOk result (ToldBoth told heard (ServesOn (sending store (seen_held before) first tasks) (to_judge store (seen_held after) first)) a b)
 
--- If memory was short, some of these texts went out, whichever inputs are to be judged then.
+-- If the call failed, some of these texts went out, whichever inputs are to be judged then.
 abbrev pub SendsFirstPart : {E T F : Type 0} → (E → Option World) → (E → Option (List Answered)) → E → E → StoreNow → Held → List Task → Result T F → Type 0
 SendsFirstPart told heard a b store before tasks result =
     (first : List Queued) → ServesShort told heard a b (sending store (seen_held before) first tasks) result
@@ -109,7 +109,7 @@ abbrev pub HearsOfAny : {E F : Type 0} → (E → Option World) → (E → Optio
 HearsOfAny told heard a b before after ch result =
     (store : StoreNow) → ServesTo told heard a b (taking store (seen_held before) ch) result (judging_heard store after)
 
--- Whichever store the links belong to: if memory was short, the run went on in part from this stage.
+-- Whichever store the links belong to: if the call failed, the run went on in part from this stage, and might have gone on.
 abbrev pub HearsShort : {E T F : Type 0} → (E → Option World) → (E → Option (List Answered)) → E → E → Held → (StoreNow → Stage) → Result T F → Type 0
 HearsShort told heard a b before from result = (store : StoreNow) → IsOf store before → ServesShort told heard a b (from store) result
 

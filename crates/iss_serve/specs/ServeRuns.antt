@@ -1,12 +1,11 @@
 -- What a run that serves does, whatever status it ends with.
-use Rattle.std.specs.Prelude.{◌≡◌, ℕ, zero, suc, ◌≤◌, ◌⊎◌, false, true, List, [], ◌∷◌, ◌++◌, Option, Some, Result, Ok, Err, IfErr}
+use Rattle.std.specs.Prelude.{◌≡◌, ℕ, ◌≤◌, ◌⊎◌, false, true, List, [], ◌∷◌, ◌++◌, Some, Result, Ok, Err, IfErr}
 use Rattle.iss_edge.specs.declared.status.TheConstants.{DONE, INPUT_FAULT, BAD_DEVICE, DISK_FAULT, OUT_OF_MEMORY}
 use Rattle.iss_edge.specs.declared.outside.Channel.{Channel}
 use Rattle.iss_edge.specs.declared.outside.Action.{Action}
 use Rattle.iss_edge.specs.declared.outside.Arrival.TheVariants.{Client}
-use Rattle.iss_edge.specs.declared.outside.Answered.{Answered}
 use Rattle.iss_edge.specs.declared.outside.Answered.TheVariants.{Waited}
-use Rattle.iss_edge.specs.Outer.{Outer, ToldBoth}
+use Rattle.iss_edge.specs.Outer.{Outer}
 use Rattle.iss_edge.specs.World.{World, Faults, Later, Rose, sent_on}
 use Rattle.iss_edge.specs.Stretches.{Step, actions_of}
 use Rattle.iss_model.specs.declared.input.Record.{Record}
@@ -59,11 +58,11 @@ pub record IsDoneInPart (said done : List Step) : Type 0 where
   pub undone : List Step
   pub cut : said ≡ done ++ undone
 
--- What was done on channels by a run with this status. At 0 it is all that its session says, and then the last closes. Otherwise it is
--- that, or a first part of it.
-abbrev pub DoneAt : ℕ → Session → List Happening → List Step → Type 0
-DoneAt zero s happenings done = done ≡ all_steps_said s happenings
-DoneAt (suc status) s happenings done = IsDoneInPart (steps_said s happenings) done
+-- What was done on channels by a run with this status. At 0 it is all that its session says, and then the last closes. At another
+-- status it is what the session says, or a first part of it.
+pub record DoneAt (status : ℕ) (s : Session) (happenings : List Happening) (done : List Step) : Type 0 where
+  pub whole : status ≡ DONE → done ≡ all_steps_said s happenings
+  pub part : (status ≡ DONE → ⊥) → IsDoneInPart (steps_said s happenings) done
 
 -- the bytes that were to go out on a channel did, or a prefix of them
 pub record SentInPart (ch : ℕ) (said : List Step) (a b : World) : Type 0 where
@@ -121,10 +120,6 @@ ServeRun turns status a b =
     (instance : ℕ) (rs : List Record) → DeviceStandsFor instance rs a.world.device
     → ServeOn turns status instance rs (session_on_device turns instance rs a.world.device) a b
 
--- what holds of the worlds, when what was heard is told beside them
-abbrev pub OfWorlds : (World → World → Type 0) → Outer → Outer → Type 0
-OfWorlds R a b = R a.world b.world
-
 -- why a run that serves may end early: clients' channels and those to the gateway may fail without that
 abbrev pub EndingCause : Faults → Faults → ServeFault → Type 0
 EndingCause before now Device = Unit {0}
@@ -143,7 +138,3 @@ ServeEndsWell before now status a b =
     (instance : ℕ) (rs : List Record) → DeviceStandsFor instance rs a.device
     → (Rose before.disk now.disk → ⊥) → (Rose before.input now.input → ⊥)
     → (status ≡ DONE) ⊎ (status ≡ OUT_OF_MEMORY)
-
--- how a run that serves ends well, by what an edge tells before it and after it
-abbrev pub ServeEndsWellOn : {E : Type 0} → (E → Faults) → (E → Option World) → (E → Option (List Answered)) → E → E → ℕ → Type 0
-ServeEndsWellOn faults told heard a b status = ToldBoth told heard (OfWorlds (ServeEndsWell (faults a) (faults b) status)) a b

@@ -3,6 +3,7 @@ ghost use Rattle.std.specs.Prelude.{[], map, OnOk, OnErr};
 ghost use Rattle.iss_edge.specs.declared.outside.Action.TheVariants.{Close};
 ghost use Rattle.iss_edge.specs.World.{Later};
 ghost use Rattle.iss_edge.specs.Outer.{Adds, ToldBoth};
+ghost use Rattle.iss_link.specs.Worlds.{StillTold};
 ghost use Rattle.iss_serve.specs.Closings.{open_channels};
 ghost use Rattle.iss_serve.specs.Held.{seen_held};
 
@@ -14,10 +15,11 @@ use std::alloc::{AllocError, Global};
 pub(crate) fn close_all<E: Edge>(alloc: Global, held: &Held, edge: &mut E) -> Result<(), AllocError>
     ensures closed { OnOk result (ToldBoth E.told E.heard (Adds (map Close (open_channels (seen_held held.now))) []) edge.old edge.new) }
     ensures unchanged { OnErr result (ToldBoth E.told E.heard (Adds [] []) edge.old edge.new) }
+    ensures alone { StillTold E.told edge.old edge.new }
     ensures later { Later (E.faults edge.old) (E.faults edge.new) }
 {
     let reading = held.clients.channels(alloc)?;
-    let waiting = held.served.channels(alloc)?;
+    let waiting = held.routes.channels(alloc)?;
     let linked = held.links.channels(alloc)?;
     close_each(edge, &reading);
     close_each(edge, &waiting);
@@ -28,6 +30,7 @@ pub(crate) fn close_all<E: Edge>(alloc: Global, held: &Held, edge: &mut E) -> Re
 /// Closes these channels.
 fn close_each<E: Edge>(edge: &mut E, channels: &[Channel])
     ensures closed { ToldBoth E.told E.heard (Adds (map Close channels.now) []) edge.old edge.new }
+    ensures alone { StillTold E.told edge.old edge.new }
     ensures later { Later (E.faults edge.old) (E.faults edge.new) }
 {
     for ch in channels {

@@ -47,7 +47,7 @@ impl From<StoreFault> for ServeFault {
 
     fn from(fault: StoreFault) -> ServeFault {
         match fault {
-            // A commit sends nothing, so no text fails in it.
+            // While clients are served, nothing goes out on channel 0, so no text fails there.
             StoreFault::Disk | StoreFault::Output => ServeFault::Disk,
             StoreFault::OutOfMemory => ServeFault::OutOfMemory,
         }

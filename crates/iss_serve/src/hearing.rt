@@ -12,6 +12,7 @@ ghost use Rattle.iss_session.specs.Hearings.{is_reading, is_waiting, link_at, in
 ghost use Rattle.iss_link.specs.Hearing.{got_in};
 ghost use Rattle.iss_session.specs.Sessions.{unasked};
 ghost use Rattle.iss_link.specs.Values.{heard_of};
+ghost use Rattle.iss_link.specs.Worlds.{StillTold};
 ghost use Rattle.iss_store.specs.Numbers.{is_from_one};
 ghost use Rattle.iss_store.specs.Serving.{SendsReply};
 ghost use Rattle.iss_store.specs.Values.{StoreNow};
@@ -31,6 +32,7 @@ use std::alloc::{AllocError, Global};
 
 impl Held {
     /// Waits once, takes in what came, and returns the input that is to be judged for it.
+    #[tactic(auto, using(crate::proofs::Alone::told_waited))]
     pub(crate) fn hear<E: Edge>(
         &mut self,
         alloc: Global,
@@ -47,6 +49,7 @@ impl Held {
         ensures hears { HearsFrom E.told E.heard edge.old edge.new self.old self.new (resting self.old) result }
         ensures part { (store : StoreNow) → IsOf store self.old
             → ServesInPart E.told E.heard edge.old edge.new (resting self.old store) result }
+        ensures alone { StillTold E.told edge.old edge.new }
         ensures caused { IsServeCaused (E.faults edge.old) (E.faults edge.new) result }
         ensures kept { Stays E.extent edge.old edge.new }
     {
@@ -87,13 +90,14 @@ impl Held {
         ensures forms { IfOk result (λ heard. IfSome heard IsQueuedInForm) }
         ensures hears { HearsFrom E.told E.heard edge.old edge.new self.old self.new (arrived_on self.old ch) result }
         ensures part { HearsShort E.told E.heard edge.old edge.new self.old (arrived_on self.old ch) result }
+        ensures alone { StillTold E.told edge.old edge.new }
         ensures later { Later (E.faults edge.old) (E.faults edge.new) }
         ensures kept { Stays E.extent edge.old edge.new }
     {
         if self.clients.is_reading(ch) {
             return self.take_request(alloc, edge, ch);
         }
-        if self.served.waits(ch) {
+        if self.routes.waits(ch) {
             self.pass_over(edge, ch);
             return Ok(None);
         }
@@ -119,6 +123,7 @@ impl Held {
         ensures forms { IfOk result (λ heard. IfSome heard IsQueuedInForm) }
         ensures hears { HearsOfAny E.told E.heard edge.old edge.new self.old self.new ch result }
         ensures part { (store : StoreNow) → ServesShort E.told E.heard edge.old edge.new (taking store (seen_held self.old) ch) result }
+        ensures alone { StillTold E.told edge.old edge.new }
         ensures later { Later (E.faults edge.old) (E.faults edge.new) }
         ensures kept { Stays E.extent edge.old edge.new }
     {
@@ -130,7 +135,10 @@ impl Held {
             self.lose_client(edge, ch);
             return Ok(None);
         }
-        match self.clients.read(alloc, ch, &self.buffer[..count])? {
+        match self
+            .clients
+            .read(alloc, &mut self.scratch, ch, &self.buffer[..count])?
+        {
             Request::More => Ok(None),
             Request::Says(input) => Ok(Some(QueuedInput {
                 input,
@@ -144,11 +152,12 @@ impl Held {
     }
 
     /// A client whose request isn't whole is lost, and its channel is closed.
-    #[tactic(auto, using(iss_edge::proofs::Outers::told_closes))]
+    #[tactic(auto, using(iss_edge::proofs::Outers::told_closes, iss_link::proofs::Worlds::told_some))]
     fn lose_client<E: Edge>(&mut self, edge: &mut E, ch: Channel)
         ensures now { seen_held self.new ≡ record (seen_held self.old) { clients = readers_without ch self.old.clients } }
         ensures still { IsStillHeld self.old self.new }
         ensures told { ToldBoth E.told E.heard (Adds (Close ch ∷ []) []) edge.old edge.new }
+        ensures alone { StillTold E.told edge.old edge.new }
         ensures later { Later (E.faults edge.old) (E.faults edge.new) }
         ensures kept { Stays E.extent edge.old edge.new }
     {
@@ -157,27 +166,30 @@ impl Held {
     }
 
     /// A client gets its response, and its channel is closed.
+    #[tactic(auto, using(iss_link::proofs::Worlds::told_some))]
     pub(crate) fn answer_client<E: Edge>(&mut self, edge: &mut E, ch: Channel, text: &[u8])
-        ensures now { seen_held self.new ≡ record (seen_held self.old) { served = waiters_without ch self.old.served } }
+        ensures now { seen_held self.new ≡ record (seen_held self.old) { served = waiters_without ch self.old.routes.waiters } }
         ensures still { IsStillHeld self.old self.new }
         ensures sends { SendsReply E.told E.heard edge.old edge.new ch text.now }
+        ensures alone { StillTold E.told edge.old edge.new }
         ensures later { Later (E.faults edge.old) (E.faults edge.new) }
         ensures kept { Stays E.extent edge.old edge.new }
     {
         reply(edge, ch, text);
-        self.served.forget(ch);
+        self.routes.forget(ch);
     }
 
     /// Takes from a client that waits, and ignores what comes. If the take fails, the channel is closed, and the client waits no longer.
     fn pass_over<E: Edge>(&mut self, edge: &mut E, ch: Channel)
         requires other { is_reading ch self.old.clients ≡ false }
-        requires waiting { is_waiting ch self.old.served ≡ true }
+        requires waiting { is_waiting ch self.old.routes.waiters ≡ true }
         requires held { IsHeld self.old }
         requires settled { self.old.unreached.items ≡ [] }
         requires ready { (E.channels edge.old).ready ≡ Some ch.0 }
         ensures still { IsStillHeld self.old self.new }
         ensures settled { self.new.unreached.items ≡ [] }
         ensures hears { PassesOver E.told E.heard edge.old edge.new self.old self.new ch }
+        ensures alone { StillTold E.told edge.old edge.new }
         ensures later { Later (E.faults edge.old) (E.faults edge.new) }
         ensures kept { Stays E.extent edge.old edge.new }
     {
@@ -188,15 +200,16 @@ impl Held {
     }
 
     /// A client that waits is lost, and its channel is closed.
-    #[tactic(auto, using(iss_edge::proofs::Outers::told_closes))]
+    #[tactic(auto, using(iss_edge::proofs::Outers::told_closes, iss_link::proofs::Worlds::told_some))]
     fn lose_waiter<E: Edge>(&mut self, edge: &mut E, ch: Channel)
-        ensures now { seen_held self.new ≡ record (seen_held self.old) { served = waiters_without ch self.old.served } }
+        ensures now { seen_held self.new ≡ record (seen_held self.old) { served = waiters_without ch self.old.routes.waiters } }
         ensures still { IsStillHeld self.old self.new }
         ensures told { ToldBoth E.told E.heard (Adds (Close ch ∷ []) []) edge.old edge.new }
+        ensures alone { StillTold E.told edge.old edge.new }
         ensures later { Later (E.faults edge.old) (E.faults edge.new) }
         ensures kept { Stays E.extent edge.old edge.new }
     {
-        self.served.forget(ch);
+        self.routes.forget(ch);
         edge.close(ch);
     }
 
@@ -208,7 +221,7 @@ impl Held {
         ch: Channel,
     ) -> Result<Option<QueuedInput>, AllocError>
         requires no_client { is_reading ch self.old.clients ≡ false }
-        requires none_waits { is_waiting ch self.old.served ≡ false }
+        requires none_waits { is_waiting ch self.old.routes.waiters ≡ false }
         requires watched { IsSome (link_at ch self.old.links.links) }
         requires held { IsHeld self.old }
         requires settled { self.old.unreached.items ≡ [] }
@@ -218,6 +231,7 @@ impl Held {
         ensures forms { IfOk result (λ heard. IfSome heard IsQueuedInForm) }
         ensures hears { HearsFrom E.told E.heard edge.old edge.new self.old self.new (λ store. taking store (seen_held self.old) ch) result }
         ensures part { HearsShort E.told E.heard edge.old edge.new self.old (λ store. taking store (seen_held self.old) ch) result }
+        ensures alone { StillTold E.told edge.old edge.new }
         ensures later { Later (E.faults edge.old) (E.faults edge.new) }
         ensures kept { Stays E.extent edge.old edge.new }
     {
@@ -227,13 +241,14 @@ impl Held {
 }
 
 /// Takes the next bytes of a channel that is ready, and returns how many came: 0 at their end, `None` if the take failed.
-#[tactic(auto, using(iss_edge::proofs::Outers::told_takes, iss_edge::proofs::Outers::told_untaken))]
+#[tactic(auto, using(iss_edge::proofs::Outers::told_takes, iss_edge::proofs::Outers::told_untaken, iss_link::proofs::Worlds::told_some))]
 fn take_piece<E: Edge>(edge: &mut E, ch: Channel, buffer: &mut [u8]) -> Option<usize>
     requires ready { (E.channels edge.old).ready ≡ Some ch.0 }
     requires room { length buffer.old ≡ LONGEST_PIECE }
     ensures room { length buffer.new ≡ LONGEST_PIECE }
     ensures bound { IfSome result (λ count. count ≤ length buffer.new) }
     ensures told { ToldBoth E.told E.heard (Adds [] (Took ch (got_in buffer.new result) ∷ [])) edge.old edge.new }
+    ensures alone { StillTold E.told edge.old edge.new }
     ensures later { Later (E.faults edge.old) (E.faults edge.new) }
     ensures kept { Stays E.extent edge.old edge.new }
 {

@@ -6,10 +6,11 @@ ghost use Rattle.iss_serve.specs.Held.{seen_held, noted, IsHeld, IsStillHeld};
 
 use crate::clients::Clients;
 use iss_edge::Channel;
+use iss_event::Scratch;
 use iss_link::{Gone, Links};
 use iss_model::{CallId, Input};
 use iss_session::piece::LONGEST_PIECE;
-use iss_store::Served;
+use iss_store::Routes;
 use std::alloc::{AllocError, Global};
 
 /// An input that is to be judged, and for a client's line the channel that it came on.
@@ -24,8 +25,8 @@ pub(crate) struct QueuedInput {
 pub(crate) struct Held {
     /// The clients whose requests aren't whole yet.
     pub(crate) clients: Clients,
-    /// The clients that wait until their events are decided.
-    pub(crate) served: Served,
+    /// Where what is said goes out, and the clients that wait until their events are decided.
+    pub(crate) routes: Routes,
     /// The channels on which the gateway's answers are awaited.
     pub(crate) links: Links,
     /// The calls that weren't reached: each has its answer, which is still to be judged.
@@ -36,6 +37,8 @@ pub(crate) struct Held {
     pub(crate) turns: u32,
     /// What a take brings.
     pub(crate) buffer: Vec<u8>,
+    /// What the line of each request is read over.
+    pub(crate) scratch: Scratch,
 }
 
 impl Held {
@@ -54,12 +57,13 @@ impl Held {
     {
         Ok(Held {
             clients: Clients::new(alloc),
-            served: Served::new(alloc),
+            routes: Routes::served(alloc),
             links: Links::new(alloc, instance)?,
             unreached: Vec::new(alloc),
             clock: 0,
             turns,
             buffer: zeros(alloc, LONGEST_PIECE)?,
+            scratch: Scratch::new(alloc),
         })
     }
 

@@ -1,8 +1,10 @@
 //! Inputs are judged one after the other. What a record makes lasts before anything of it goes out.
 ghost use Rattle.std.specs.Prelude.{◌≡◌, ◌<◌, [], true, IfOk, OnOk};
-ghost use Rattle.iss_edge.specs.World.{Told, Later, Stays};
+ghost use Rattle.iss_edge.specs.World.{Stays};
 ghost use Rattle.iss_store.specs.Planning.{IsPlanOf};
+ghost use Rattle.iss_store.specs.Routes.{IsServed};
 ghost use Rattle.iss_store.specs.Saying.{IsDurableOf};
+ghost use Rattle.iss_link.specs.Worlds.{StillTold};
 ghost use Rattle.iss_serve.specs.Causes.{IsServeCaused};
 ghost use Rattle.iss_serve.specs.Held.{seen_held, queued_as, answers_unreached, IsQueuedInForm, judging_first, left_to_judge, resting, CallsNumbered, IsHeld, IsStillHeld, IsOf, records_left};
 ghost use Rattle.iss_serve.specs.Judged.{Judges, Settles, waiting_for, IsPlannedFor};
@@ -31,6 +33,7 @@ pub(crate) fn judge_all<E: Edge>(
     requires form { IsQueuedInForm first.now }
     ensures judged { ServesTo E.told E.heard edge.old edge.new (judging_first store held.old first.now []) result (resting held.new) }
     ensures part { ServesInPart E.told E.heard edge.old edge.new (judging_first store held.old first.now []) result }
+    ensures alone { StillTold E.told edge.old edge.new }
     ensures settles { IfOk result (λ next. Settles store next held.old held.new) }
     ensures caused { IsServeCaused (E.faults edge.old) (E.faults edge.new) result }
     ensures kept { Stays E.extent edge.old edge.new }
@@ -51,6 +54,7 @@ pub(crate) fn judge_unreached<E: Edge>(
     requires instance { IsOf store held.old }
     ensures judged { ServesTo E.told E.heard edge.old edge.new (resting held.old store) result (resting held.new) }
     ensures part { ServesInPart E.told E.heard edge.old edge.new (resting held.old store) result }
+    ensures alone { StillTold E.told edge.old edge.new }
     ensures settles { IfOk result (λ next. Settles store next held.old held.new) }
     ensures caused { IsServeCaused (E.faults edge.old) (E.faults edge.new) result }
     ensures kept { Stays E.extent edge.old edge.new }
@@ -79,6 +83,7 @@ fn judge_each<E: Edge>(
         (left_to_judge held.old (answers_unreached calls.now) store) result (resting held.new) }
     ensures part { ServesInPart E.told E.heard edge.old edge.new
         (left_to_judge held.old (answers_unreached calls.now) store) result }
+    ensures alone { StillTold E.told edge.old edge.new }
     ensures judges { IfOk result (λ next. Judges store next held.old held.new) }
     ensures caused { IsServeCaused (E.faults edge.old) (E.faults edge.new) result }
     ensures kept { Stays E.extent edge.old edge.new }
@@ -105,6 +110,7 @@ fn judge<E: Edge>(
     requires form { IsQueuedInForm queued.now }
     ensures judged { JudgesFirst E.told E.heard edge.old edge.new store held.old held.new queued.now result }
     ensures part { JudgesPart E.told E.heard edge.old edge.new store held.old queued.now result }
+    ensures alone { StillTold E.told edge.old edge.new }
     ensures judges { IfOk result (λ next. Judges store next held.old held.new) }
     ensures caused { IsServeCaused (E.faults edge.old) (E.faults edge.new) result }
     ensures kept { Stays E.extent edge.old edge.new }
@@ -133,6 +139,7 @@ fn judge_once<E: Edge>(
     requires form { IsQueuedInForm queued.now }
     ensures judged { JudgesOnce E.told E.heard edge.old edge.new store held.old held.new queued.now result }
     ensures part { JudgesPart E.told E.heard edge.old edge.new store held.old queued.now result }
+    ensures alone { StillTold E.told edge.old edge.new }
     ensures judges { IfOk result (λ x. Judges store x.0 held.old held.new) }
     ensures again { IfOk result (λ x. x.1 ≡ true → records_left x.0 < records_left store) }
     ensures caused { IsServeCaused (E.faults edge.old) (E.faults edge.new) result }
@@ -153,6 +160,7 @@ fn judge_once<E: Edge>(
 }
 
 /// Makes the record of a plan last, lets the client of a new event wait for it, and then sends what the record says.
+#[tactic(auto, using(iss_link::proofs::Worlds::told_some))]
 fn keep<E: Edge>(
     alloc: Global,
     store: Store,
@@ -168,6 +176,7 @@ fn keep<E: Edge>(
     requires planned_for { IsPlannedFor store held.old.clock queued.now.input planned }
     ensures judged { KeepsPlan E.told E.heard edge.old edge.new store planned held.old held.new queued.now result }
     ensures part { JudgesPart E.told E.heard edge.old edge.new store held.old queued.now result }
+    ensures alone { StillTold E.told edge.old edge.new }
     ensures judges { IfOk result (λ next. Judges store next held.old held.new) }
     ensures less { IfOk result (λ next. records_left next < records_left store) }
     ensures caused { IsServeCaused (E.faults edge.old) (E.faults edge.new) result }
@@ -181,27 +190,32 @@ fn keep<E: Edge>(
 }
 
 /// Sends what a record says, and notes what became of it.
+#[tactic(auto, using(iss_link::proofs::Worlds::told_some))]
 fn release<E: Edge>(
     alloc: Global,
     store: &Store,
     held: &mut Held,
     durable: Durable,
     edge: &mut E,
-) -> Result<(), AllocError>
+) -> Result<(), ServeFault>
     requires last { IsDurableOf store.now durable }
+    requires routes { IsServed held.old.routes }
     ensures released { SendsFirst E.told E.heard edge.old edge.new
         store.now held.old held.new (tasks_said store.now durable held.old) result }
     ensures part { SendsFirstPart E.told E.heard edge.old edge.new
         store.now held.old (tasks_said store.now durable held.old) result }
+    ensures alone { StillTold E.told edge.old edge.new }
     ensures still { OnOk result (IsStillHeld held.old held.new) }
-    ensures later { Later (E.faults edge.old) (E.faults edge.new) }
+    ensures caused { IsServeCaused (E.faults edge.old) (E.faults edge.new) result }
     ensures kept { Stays E.extent edge.old edge.new }
 {
-    let gone = store.release_served(alloc, edge, durable, &mut held.served)?;
-    held.note_all(&gone)
+    let gone = store.release(alloc, edge, durable, &mut held.routes)?;
+    held.note_all(&gone)?;
+    Ok(())
 }
 
 /// Tells a client why its input makes no record. If the input came from the gateway or the clock, nobody is told.
+#[tactic(auto, using(iss_link::proofs::Worlds::told_some))]
 fn tell<E: Edge>(
     alloc: Global,
     store: &Store,
@@ -209,21 +223,23 @@ fn tell<E: Edge>(
     queued: &QueuedInput,
     answer: &Answer,
     edge: &mut E,
-) -> Result<(), AllocError>
+) -> Result<(), ServeFault>
+    requires routes { IsServed held.old.routes }
     ensures told { SendsFirst E.told E.heard edge.old edge.new
         store.now held.old held.new (tasks_told queued.now answer.now) result }
     ensures part { SendsFirstPart E.told E.heard edge.old edge.new
         store.now held.old (tasks_told queued.now answer.now) result }
+    ensures alone { StillTold E.told edge.old edge.new }
     ensures still { OnOk result (IsStillHeld held.old held.new) }
     ensures unreached { OnOk result (held.new.unreached.items ≡ held.old.unreached.items) }
-    ensures later { Later (E.faults edge.old) (E.faults edge.new) }
+    ensures caused { IsServeCaused (E.faults edge.old) (E.faults edge.new) result }
     ensures kept { Stays E.extent edge.old edge.new }
 {
     let Some(ch) = queued.client else {
         return Ok(());
     };
-    store.tell_served(alloc, edge, ch, answer)?;
-    held.served.forget(ch);
+    store.tell(alloc, edge, &mut held.routes, ch, answer)?;
+    held.routes.forget(ch);
     Ok(())
 }
 
@@ -237,7 +253,7 @@ impl Held {
             return Ok(());
         }
         match (queued.client, queued.input.event()) {
-            (Some(ch), Some(event)) => self.served.wait_for(&event, ch),
+            (Some(ch), Some(event)) => self.routes.wait_for(&event, ch),
             _ => Ok(()),
         }
     }

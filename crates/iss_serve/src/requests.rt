@@ -9,7 +9,7 @@ ghost use Rattle.iss_serve.specs.Requests.{ReadsOn, SaysLine, IsRequestInForm};
 use crate::clients::Clients;
 use crate::telling::{fault_response, form_response};
 use iss_edge::Channel;
-use iss_event::{LineFault, Mode, read_line};
+use iss_event::{LineFault, Mode, Scratch, read_line_in};
 use iss_http::FeedFault;
 use iss_model::Input;
 use std::alloc::{AllocError, Global};
@@ -30,6 +30,7 @@ impl Clients {
     pub(crate) fn read(
         &mut self,
         alloc: Global,
+        scratch: &mut Scratch,
         ch: Channel,
         piece: &[u8],
     ) -> Result<Request, AllocError>
@@ -41,7 +42,7 @@ impl Clients {
             Ok(None) => Ok(Request::More),
             Ok(Some(body)) => {
                 self.remove(ch);
-                read_body(alloc, &body)
+                read_body(alloc, scratch, &body)
             }
             Err(FeedFault::Http(fault)) => {
                 self.remove(ch);
@@ -52,12 +53,12 @@ impl Clients {
     }
 }
 
-/// What the body of a request says.
-fn read_body(alloc: Global, body: &[u8]) -> Result<Request, AllocError>
+/// What the body of a request says, read over a scratch that is kept from one request to the next.
+fn read_body(alloc: Global, scratch: &mut Scratch, body: &[u8]) -> Result<Request, AllocError>
     ensures says { IfOk result (SaysLine (line_as (line_read Client body.now))) }
     ensures forms { IfOk result IsRequestInForm }
 {
-    match read_line(alloc, body, Mode::Client) {
+    match read_line_in(scratch, alloc, body, Mode::Client) {
         Ok(line) => Ok(Request::Says(line.input)),
         Err(LineFault::Form(fault)) => Ok(Request::Bad(form_response(alloc, &fault)?)),
         Err(LineFault::OutOfMemory) => Err(AllocError),

@@ -1,13 +1,14 @@
 //! A run that serves.
 ghost use Rattle.std.specs.Prelude.{◌≡◌, ◌<◌, [], IfOk, IfErr, OnOk};
-ghost use Rattle.iss_edge.specs.World.{Stays};
+ghost use Rattle.iss_edge.specs.World.{Told, Stays};
 ghost use Rattle.iss_edge.specs.Outer.{ToldBoth};
+ghost use Rattle.iss_link.specs.Worlds.{StillTold};
 ghost use Rattle.iss_serve.specs.Causes.{IsServeCaused, IsOfDisk};
 ghost use Rattle.iss_serve.specs.Held.{seen_held, resting, first_stage, IsHeld, IsOf};
 ghost use Rattle.iss_serve.specs.Judged.{Settles};
 ghost use Rattle.iss_device.specs.Refusals.{RefusesExactly};
 ghost use Rattle.iss_serve.specs.Runs.{ServesTo, ServesInPart, ServesToEnd, ServesUpTo};
-ghost use Rattle.iss_serve.specs.ServeRuns.{serve_status, ServeRun, OfWorlds, EndsCaused, ServeEndsWellOn};
+ghost use Rattle.iss_serve.specs.ServeRuns.{serve_status, ServeRun, EndsCaused, ServeEndsWell};
 
 use crate::ServeFault;
 use crate::closing::close_all;
@@ -20,18 +21,19 @@ use std::alloc::Global;
 /// Opens the device, and sends again what still waits for the gateway. Then it waits at most `turns` times for what comes
 /// next: a client, a channel that is ready, or the time. In the end every channel that is still open is closed.
 ///
-/// A client or a channel to the gateway that fails ends nothing but itself.
+/// If a client's channel or one to the gateway fails, that channel is closed, and the run goes on.
 ///
 /// # Errors
 ///
 /// `Device` if the device stands for no records, `Wait` if a wait failed, `Disk` if a call on the device did, and
 /// `OutOfMemory`.
-#[tactic(auto, using(crate::proofs::ToldServes::told_unopened_serve, crate::proofs::ToldServes::told_unopened_refuses, crate::proofs::ToldServes::told_served, crate::proofs::ToldServes::told_served_refuses, crate::proofs::ToldServes::caused_by_opening, crate::proofs::ToldServes::caused_behind, crate::proofs::ToldServes::told_ends_well))]
+#[tactic(auto, using(crate::proofs::ToldServes::told_unopened_serve, crate::proofs::ToldServes::caused_by_opening, crate::proofs::ToldServes::caused_behind))]
 pub fn serve<E: Edge>(alloc: Global, turns: u32, edge: &mut E) -> Result<(), ServeFault>
     ensures serving { ToldBoth E.told E.heard (ServeRun turns (serve_status result)) edge.old edge.new }
-    ensures refused { ToldBoth E.told E.heard (OfWorlds (RefusesExactly (serve_status result))) edge.old edge.new }
+    ensures refused { Told (RefusesExactly (serve_status result)) (E.told edge.old) (E.told edge.new) }
     ensures caused { EndsCaused (E.faults edge.old) (E.faults edge.new) result }
-    ensures complete { ServeEndsWellOn E.faults E.told E.heard edge.old edge.new (serve_status result) }
+    ensures complete { Told (ServeEndsWell (E.faults edge.old) (E.faults edge.new) (serve_status result))
+        (E.told edge.old) (E.told edge.new) }
 {
     let store = Store::open(alloc, edge)?;
     serve_on(alloc, store, turns, edge)
@@ -47,6 +49,7 @@ fn serve_on<E: Edge>(
     requires size { E.extent edge.old ≡ store.place.to }
     ensures whole { OnOk result (ToldBoth E.told E.heard (ServesToEnd store turns) edge.old edge.new) }
     ensures part { IfErr result (λ why. ToldBoth E.told E.heard (ServesUpTo (IsOfDisk why) store turns) edge.old edge.new) }
+    ensures alone { StillTold E.told edge.old edge.new }
     ensures caused { IsServeCaused (E.faults edge.old) (E.faults edge.new) result }
 {
     let mut held = Held::new(alloc, store.core().instance(), turns)?;
@@ -57,6 +60,7 @@ fn serve_on<E: Edge>(
 }
 
 /// Sends again what still waits for the gateway, and judges the answers of the calls that weren't reached.
+#[tactic(auto, using(iss_link::proofs::Worlds::told_some))]
 fn resume<E: Edge>(
     alloc: Global,
     store: Store,
@@ -69,11 +73,12 @@ fn resume<E: Edge>(
     ensures resumed { ServesTo E.told E.heard edge.old edge.new
         (first_stage store (seen_held held.old)) result (resting held.new) }
     ensures part { ServesInPart E.told E.heard edge.old edge.new (first_stage store (seen_held held.old)) result }
+    ensures alone { StillTold E.told edge.old edge.new }
     ensures settles { IfOk result (λ next. Settles store next held.old held.new) }
     ensures caused { IsServeCaused (E.faults edge.old) (E.faults edge.new) result }
     ensures kept { Stays E.extent edge.old edge.new }
 {
-    let gone = store.resume_served(alloc, edge)?;
+    let gone = store.resume(alloc, edge, &mut held.routes)?;
     held.note_all(&gone)?;
     judge_unreached(alloc, store, held, edge)
 }
@@ -91,6 +96,7 @@ fn wait_on<E: Edge>(
     requires settled { held.old.unreached.items ≡ [] }
     ensures waited { ServesTo E.told E.heard edge.old edge.new (resting held.old store) result (resting held.new) }
     ensures part { ServesInPart E.told E.heard edge.old edge.new (resting held.old store) result }
+    ensures alone { StillTold E.told edge.old edge.new }
     ensures settled { IfOk result (λ next. held.new.unreached.items ≡ []) }
     ensures turns { IfOk result (λ next. held.new.turns ≡ 0) }
     ensures caused { IsServeCaused (E.faults edge.old) (E.faults edge.new) result }
@@ -116,6 +122,7 @@ fn turn<E: Edge>(
     requires turns { 0 < held.old.turns }
     ensures turned { ServesTo E.told E.heard edge.old edge.new (resting held.old store) result (resting held.new) }
     ensures part { ServesInPart E.told E.heard edge.old edge.new (resting held.old store) result }
+    ensures alone { StillTold E.told edge.old edge.new }
     ensures held { IfOk result (λ next. IsHeld held.new) }
     ensures instance { IfOk result (λ next. IsOf next held.new) }
     ensures settled { IfOk result (λ next. held.new.unreached.items ≡ []) }

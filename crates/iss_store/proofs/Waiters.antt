@@ -14,7 +14,7 @@ use Rattle.iss_channels.proofs.Lookups.{more_found, less_found, back_found, more
 use Rattle.iss_session.specs.Desks.{Waiter, waiters_without}
 use Rattle.iss_session.specs.Hearings.{is_waiting}
 use Rattle.iss_session.specs.Sessions.{waiter_for}
-use Rattle.iss_store.specs.declared.served.Waiting.{Waiting}
+use Rattle.iss_store.specs.declared.waiting.Waiting.{Waiting}
 use Rattle.iss_store.specs.Waiting.{waiter_of, AreWaitersKept}
 
 -- ---- as contracts see them

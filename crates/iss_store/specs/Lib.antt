@@ -8,4 +8,5 @@ pub mod Committing
 pub mod Saying
 pub mod Opening
 pub mod Waiting
+pub mod Routes
 pub mod Serving

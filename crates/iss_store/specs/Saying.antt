@@ -1,7 +1,10 @@
 -- What a store says, and that saying leaves the device as it is.
-use Rattle.std.specs.Prelude.{◌≡◌, ℕ, List, [], ◌∷◌, ◌++◌, Result, IsErrOf}
+use Rattle.std.specs.Prelude.{◌≡◌, ℕ, List, [], ◌∷◌, ◌++◌, Option, Result, IsErrOf, OnOk, OnErr}
 use Rattle.iss_edge.specs.declared.outside.Action.{Action}
-use Rattle.iss_edge.specs.World.{World, Faults, Later, Rose}
+use Rattle.iss_edge.specs.declared.outside.Answered.{Answered}
+use Rattle.iss_edge.specs.Channels.{Channels}
+use Rattle.iss_edge.specs.World.{World, Faults, Told, Later, Rose, Stays}
+use Rattle.iss_edge.specs.Outer.{Adds, ToldBoth}
 use Rattle.iss_edge.specs.Stretches.{Step, actions_of, SentUpTo, GoesOn, AreStill}
 use Rattle.iss_journal.specs.Region.{Region, RestsFirst, StandsFirst}
 use Rattle.iss_model.specs.declared.input.Record.{Record}
@@ -12,8 +15,9 @@ use Rattle.iss_model.specs.state.Cores.{core_facts}
 use Rattle.iss_model.specs.run.Sayings.{asked, noticed}
 use Rattle.iss_model.specs.run.Runs.{said_first}
 use Rattle.iss_texts.specs.TextRows.{said_texts}
+use Rattle.iss_texts.specs.Sending.{Says, SaysSome, SentEach, StopsAt}
 use Rattle.iss_store.specs.declared.fault.StoreFault.{StoreFault}
-use Rattle.iss_store.specs.declared.fault.StoreFault.TheVariants.{Disk, Output}
+use Rattle.iss_store.specs.declared.fault.StoreFault.TheVariants.{Disk, Output, OutOfMemory}
 use Rattle.iss_store.specs.Standing.{StandsFor}
 use Rattle.iss_store.specs.Values.{StoreNow, DurableNow, said_of}
 
@@ -56,8 +60,19 @@ pub record StaysGood (a b : World) : Type 0 where
       → actions_of steps ≡ added → SentUpTo j steps
       → GoesOn (RestsFirst region bodies) (StandsFirst region bodies) (RestsFirst region bodies) j j steps
 
--- No count of faults has fallen, a fault of output has the output's count risen, and there is none of the disk.
+-- No count of faults has fallen. If the call failed by an output, the output's count rose. It never fails by the disk.
 pub record SayingCause {T : Type 0} (before now : Faults) (result : Result T StoreFault) : Type 0 where
   pub later : Later before now
   pub output : IsErrOf result Output → Rose before.output now.output
   pub no_disk : IsErrOf result Disk → ⊥
+
+-- What a call says over lines: these texts, each by an emit of its own on channel 0. If one fails, nothing more is said, and if memory
+-- is short, nothing is said at all. The first two fields ask only that the world is told, and not what was heard.
+pub record SaysLines {E T : Type 0} (told : E → Option World) (heard : E → Option (List Answered)) (opened : E → Channels) (a b : E)
+    (texts : List (List ℕ)) (result : Result T StoreFault) : Type 0 where
+  pub says : OnOk result (Told (Says texts) (told a) (told b))
+  pub part : OnErr result (Told (SaysSome texts) (told a) (told b))
+  pub sent : OnOk result (ToldBoth told heard (SentEach texts) a b)
+  pub stopped : IsErrOf result Output → ToldBoth told heard (StopsAt texts) a b
+  pub unsent : IsErrOf result OutOfMemory → ToldBoth told heard (Adds [] []) a b
+  pub channels : Stays opened a b

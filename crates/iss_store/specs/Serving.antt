@@ -1,10 +1,10 @@
 -- What a store says while clients are served, by the definitions of serving.
-use Rattle.std.specs.Prelude.{◌≡◌, ℕ, Bool, true, false, List, [], ◌∷◌, ◌++◌, map, Option, Result, OnOk, OnErr}
+use Rattle.std.specs.Prelude.{◌≡◌, ℕ, Bool, true, false, List, [], ◌∷◌, ◌++◌, map, Option, Result, Vec, IfOk, IfErr, OnOk, OnErr}
 use Rattle.std.specs.List.{flat_map, list_all, list_any}
 use Rattle.iss_edge.specs.declared.outside.Channel.{Channel}
 use Rattle.iss_edge.specs.declared.outside.Answered.{Answered}
 use Rattle.iss_edge.specs.World.{World, Told, Faults, Later, Rose}
-use Rattle.iss_edge.specs.Outer.{Outer, outer, ToldBoth}
+use Rattle.iss_edge.specs.Outer.{Outer, outer, Adds, ToldBoth}
 use Rattle.iss_http.specs.declared.statuses.TheConstants.{OK}
 use Rattle.iss_http.specs.Messages.{ask, respond}
 use Rattle.iss_model.specs.declared.call.Notice.{Notice}
@@ -28,6 +28,8 @@ use Rattle.iss_session.specs.Sessions.{tasks_of}
 use Rattle.iss_link.specs.declared.gone.Gone as link
 use Rattle.iss_link.specs.declared.gone.Gone.TheVariants.{Asked, Noted, Unreached}
 use Rattle.iss_link.specs.Values.{gone_as}
+use Rattle.iss_store.specs.declared.fault.StoreFault.{StoreFault}
+use Rattle.iss_store.specs.declared.fault.StoreFault.TheVariants.{OutOfMemory}
 use Rattle.iss_store.specs.Numbers.{is_from_one}
 use Rattle.iss_store.specs.Standing.{StandsFor}
 use Rattle.iss_store.specs.Values.{StoreNow, DurableNow, said_of}
@@ -111,25 +113,22 @@ HaveNumbers gone = list_all has_number gone ≡ true
 abbrev pub SendsAll : ℕ → List Task → List Waiter → List Waiter → List link.Gone → Outer → Outer → Type 0
 SendsAll level tasks before after gone = Sends level (desk_with tasks before) (desk_with [] after) (all_gone gone)
 
--- all that a record says went out, and this became of its texts to the gateway
-abbrev pub SendsRecord : StoreNow → DurableNow → List Waiter → List Waiter → List link.Gone → Outer → Outer → Type 0
-SendsRecord s d before after gone = SendsAll s.core.state.count (tasks_of_record s d before) before after gone
+-- What a call sends while clients are served: these texts, and `after` are those of `before` that still wait then. If the call fails,
+-- some of the texts went out, and it failed for want of memory.
+pub record SendsTexts {E Z : Type 0} (told : E → Option World) (heard : E → Option (List Answered)) (a b : E)
+    (level : ℕ) (tasks : List Task) (before after : List Waiter) (result : Result (Vec link.Gone Z) StoreFault) : Type 0 where
+  pub sends : IfOk result (λ gone. ToldBoth told heard (SendsAll level tasks before after gone.items) a b)
+  pub part : OnErr result (ToldBoth told heard (SendsPart level (desk_with tasks before)) a b)
+  pub short : IfErr result (λ why. why ≡ OutOfMemory)
 
--- some of what a record says went out
-abbrev pub SendsRecordPart : StoreNow → DurableNow → List Waiter → Outer → Outer → Type 0
-SendsRecordPart s d waiting = SendsPart s.core.state.count (desk_with (tasks_of_record s d waiting) waiting)
+-- what a call sends of a record that lasts
+abbrev pub SendsRecord : {E Z : Type 0} → (E → Option World) → (E → Option (List Answered)) → E → E
+    → StoreNow → DurableNow → List Waiter → List Waiter → Result (Vec link.Gone Z) StoreFault → Type 0
+SendsRecord told heard a b s d before after result = SendsTexts told heard a b s.core.state.count (tasks_of_record s d before) before after result
 
--- all that still waits for the gateway went out, whoever waits, and this became of it
-abbrev pub SendsPending : StoreNow → List Waiter → List link.Gone → Outer → Outer → Type 0
-SendsPending s waiting gone = SendsAll s.core.state.count (tasks_pending s) waiting waiting gone
-
--- some of what still waits for the gateway went out
-abbrev pub SendsPendingPart : StoreNow → List Waiter → Outer → Outer → Type 0
-SendsPendingPart s waiting = SendsPart s.core.state.count (desk_with (tasks_pending s) waiting)
-
--- If the call failed, some of what still waits for the gateway went out, whoever waits.
-abbrev pub ResumesPart : {E T F : Type 0} → (E → Option World) → (E → Option (List Answered)) → E → E → StoreNow → Result T F → Type 0
-ResumesPart told heard a b s result = (waiting : List Waiter) → OnErr result (ToldBoth told heard (SendsPendingPart s waiting) a b)
+-- what a call sends of what still waits for the gateway, whoever waits
+abbrev pub SendsPending : {E Z : Type 0} → (E → Option World) → (E → Option (List Answered)) → E → E → StoreNow → Result (Vec link.Gone Z) StoreFault → Type 0
+SendsPending told heard a b s result = (waiting : List Waiter) → SendsTexts told heard a b s.core.state.count (tasks_pending s) waiting waiting result
 
 -- This text went out on a channel of its own, or didn't, as the result says. That is so at any level, whatever comes after it and whoever waits.
 abbrev pub SendsDialled : {E : Type 0} → (E → Option World) → (E → Option (List Answered)) → E → E → List ℕ → Option Channel → Type 0
@@ -143,11 +142,14 @@ SendsReply told heard a b ch text =
     (level : ℕ) → (tasks : List Task) → (waiting : List Waiter)
     → ToldBoth told heard (Sends level (desk_with (to_reply ch text ∷ tasks) waiting) (desk_with tasks (waiters_without ch waiting)) []) a b
 
--- If the call succeeded, the client was told why its input makes no record, whoever waits, and it waits no more.
-abbrev pub SendsAnswer : {E T F : Type 0} → (E → Option World) → (E → Option (List Answered)) → E → E → ℕ → Channel → Answer → Result T F → Type 0
-SendsAnswer told heard a b level ch answer result =
-    (waiting : List Waiter)
-    → OnOk result (ToldBoth told heard (Sends level (desk_with (telling_tasks ch answer) waiting) (desk_with [] (waiters_without ch waiting)) []) a b)
+-- What a call sends a client to tell it why its input makes no record, whoever waits: the client waits no more then. If the call fails,
+-- nothing went out, and it failed for want of memory.
+pub record SendsAnswer {E T : Type 0} (told : E → Option World) (heard : E → Option (List Answered)) (a b : E)
+    (level : ℕ) (ch : Channel) (answer : Answer) (result : Result T StoreFault) : Type 0 where
+  pub sends : (waiting : List Waiter)
+      → OnOk result (ToldBoth told heard (Sends level (desk_with (telling_tasks ch answer) waiting) (desk_with [] (waiters_without ch waiting)) []) a b)
+  pub unsent : OnErr result (ToldBoth told heard (Adds [] []) a b)
+  pub short : IfErr result (λ why. why ≡ OutOfMemory)
 
 -- a call wasn't reached
 abbrev pub is_unreached : link.Gone → Bool

@@ -5,7 +5,7 @@ use Rattle.std.specs.Cmp.Lexicographic.{slice_cmp}
 use Rattle.iss_channels.specs.Places.{AreFound}
 use Rattle.iss_channels.specs.Placed.{Placed, ArePlaced}
 use Rattle.iss_session.specs.Desks.{Waiter}
-use Rattle.iss_store.specs.declared.served.Waiting.{Waiting}
+use Rattle.iss_store.specs.declared.waiting.Waiting.{Waiting}
 
 -- a client that waits
 abbrev pub waiter_of : Waiting → Waiter

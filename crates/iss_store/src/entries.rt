@@ -7,15 +7,12 @@ ghost use Rattle.iss_store.specs.Saying.{StaysGood};
 ghost use Rattle.iss_store.specs.Numbers.{is_from_one, is_numbered, AreNumbered};
 ghost use Rattle.iss_store.specs.Serving.{NotesOn, NotesGone, NotesAnswered, SendsSomeOf, SendsOn, CausesGone, tasks_by, tasks_by_each, decision_tasks, request_tasks, notice_tasks, all_gone, has_number, HaveNumbers};
 
-use crate::Served;
+use crate::message::Message;
 use crate::sending::{reply, send};
+use crate::waiting::Waiters;
 use iss_edge::{Channel, Edge};
-use iss_event::reply_line;
-use iss_http::statuses::OK;
-use iss_http::{ask, respond};
-use iss_jit::{notice_text, request_text};
 use iss_link::Gone;
-use iss_model::{Entry, Notice, Opened, Reply, Token, Verdict};
+use iss_model::{Entry, Notice, Opened, Token, Verdict};
 use std::alloc::{AllocError, Global};
 
 /// Sends the texts of entries in their order, each decision to the client that waited for it before. Returns what became of those to
@@ -25,13 +22,14 @@ pub(crate) fn send_entries<E: Edge>(
     alloc: Global,
     edge: &mut E,
     entries: &[Entry],
-    served: &Served,
+    waiters: &Waiters,
     instance: u64,
+    message: &mut Message,
 ) -> Result<(Vec<Gone>, Vec<Channel>), AllocError>
     requires instance { instance < INSTANCES }
     requires numbered { AreNumbered entries.now }
-    ensures sends { IfOk result (λ x. ToldBoth E.told E.heard (SendsOn (tasks_by_each instance served.now entries.now) (all_gone x.0.items) x.1.items) edge.old edge.new) }
-    ensures part { OnErr result (ToldBoth E.told E.heard (SendsSomeOf (tasks_by_each instance served.now entries.now)) edge.old edge.new) }
+    ensures sends { IfOk result (λ x. ToldBoth E.told E.heard (SendsOn (tasks_by_each instance waiters.now entries.now) (all_gone x.0.items) x.1.items) edge.old edge.new) }
+    ensures part { OnErr result (ToldBoth E.told E.heard (SendsSomeOf (tasks_by_each instance waiters.now entries.now)) edge.old edge.new) }
     ensures stays { Told StaysGood (E.told edge.old) (E.told edge.new) }
     ensures later { Later (E.faults edge.old) (E.faults edge.new) }
     ensures cause { IfOk result (λ x. CausesGone (E.faults edge.old) (E.faults edge.new) x.0.items) }
@@ -42,11 +40,11 @@ pub(crate) fn send_entries<E: Edge>(
     let mut answered = Vec::new(alloc);
     for entry in entries {
         send_entry(
-            alloc,
             edge,
             entry,
-            served,
+            waiters,
             instance,
+            message,
             &mut gone,
             &mut answered,
         )?;
@@ -57,11 +55,11 @@ pub(crate) fn send_entries<E: Edge>(
 /// Sends the text of an entry if it has one that goes out, and notes what became of it.
 #[tactic(auto, using(crate::proofs::ServedTexts::notes_nothing, crate::proofs::ServedTexts::told_nothing_sent, crate::proofs::ServedTexts::told_none_of, crate::proofs::Stays::told_nothing_stays))]
 fn send_entry<E: Edge>(
-    alloc: Global,
     edge: &mut E,
     entry: &Entry,
-    served: &Served,
+    waiters: &Waiters,
     instance: u64,
+    message: &mut Message,
     gone: &mut Vec<Gone>,
     answered: &mut Vec<Channel>,
 ) -> Result<(), AllocError>
@@ -70,19 +68,19 @@ fn send_entry<E: Edge>(
     requires before { HaveNumbers gone.old.items }
     ensures numbered { OnOk result (HaveNumbers gone.new.items) }
     ensures notes { OnOk result (NotesOn E.faults E.told E.heard edge.old edge.new
-        (tasks_by instance served.now entry.now) gone.old.items gone.new.items answered.old.items answered.new.items) }
-    ensures part { OnErr result (ToldBoth E.told E.heard (SendsSomeOf (tasks_by instance served.now entry.now)) edge.old edge.new) }
+        (tasks_by instance waiters.now entry.now) gone.old.items gone.new.items answered.old.items answered.new.items) }
+    ensures part { OnErr result (ToldBoth E.told E.heard (SendsSomeOf (tasks_by instance waiters.now entry.now)) edge.old edge.new) }
     ensures stays { Told StaysGood (E.told edge.old) (E.told edge.new) }
     ensures later { Later (E.faults edge.old) (E.faults edge.new) }
     ensures kept { Stays E.extent edge.old edge.new }
 {
     match entry {
-        Entry::Decided(event, verdict) => match served.channel_for(event) {
-            Some(ch) => send_decision(alloc, edge, ch, event, verdict, answered),
+        Entry::Decided(event, verdict) => match waiters.channel_for(event) {
+            Some(ch) => send_decision(edge, ch, event, verdict, message, answered),
             None => Ok(()),
         },
-        Entry::Opened(opened) => send_request(alloc, edge, opened, instance, gone),
-        Entry::Notice(notice) => send_notice(alloc, edge, notice, instance, gone),
+        Entry::Opened(opened) => send_request(edge, opened, instance, message, gone),
+        Entry::Notice(notice) => send_notice(edge, notice, instance, message, gone),
         _ => Ok(()),
     }
 }
@@ -90,11 +88,11 @@ fn send_entry<E: Edge>(
 /// Tells a client the decision that it waits for.
 #[tactic(auto, using(crate::proofs::ServedTexts::notes_reply, crate::proofs::ServedTexts::told_unchanged, crate::proofs::Stays::told_nothing_stays))]
 fn send_decision<E: Edge>(
-    alloc: Global,
     edge: &mut E,
     ch: Channel,
     event: &Token,
     verdict: &Verdict,
+    message: &mut Message,
     answered: &mut Vec<Channel>,
 ) -> Result<(), AllocError>
     ensures notes { NotesAnswered E.faults E.told E.heard edge.old edge.new
@@ -104,20 +102,19 @@ fn send_decision<E: Edge>(
     ensures later { Later (E.faults edge.old) (E.faults edge.new) }
     ensures kept { Stays E.extent edge.old edge.new }
 {
-    let line = reply_line(alloc, event, &Reply::Decided(*verdict))?;
-    let text = respond(alloc, OK, &line)?;
+    message.write_decision(event, verdict)?;
     answered.push(ch)?;
-    reply(edge, ch, &text);
+    reply(edge, ch, &message.bytes);
     Ok(())
 }
 
 /// Sends the request of a call, and notes whether it was reached.
 #[tactic(auto, using(crate::proofs::ServedTexts::told_none_of, crate::proofs::Stays::told_nothing_stays))]
 fn send_request<E: Edge>(
-    alloc: Global,
     edge: &mut E,
     opened: &Opened,
     instance: u64,
+    message: &mut Message,
     gone: &mut Vec<Gone>,
 ) -> Result<(), AllocError>
     requires instance { instance < INSTANCES }
@@ -131,9 +128,8 @@ fn send_request<E: Edge>(
     ensures later { Later (E.faults edge.old) (E.faults edge.new) }
     ensures kept { Stays E.extent edge.old edge.new }
 {
-    let text = request_text(alloc, opened, instance)?;
-    let bytes = ask(alloc, &text)?;
-    match send(edge, &bytes) {
+    message.write_request(opened, instance)?;
+    match send(edge, &message.bytes) {
         Some(ch) => note(gone, &Gone::Asked(*opened, ch)),
         None => note(gone, &Gone::Unreached(opened.call)),
     }
@@ -142,10 +138,10 @@ fn send_request<E: Edge>(
 /// Sends a notice, and notes on which channel. A notice that doesn't go out waits for the next run.
 #[tactic(auto, using(crate::proofs::ServedTexts::told_none_of, crate::proofs::Stays::told_nothing_stays))]
 fn send_notice<E: Edge>(
-    alloc: Global,
     edge: &mut E,
     notice: &Notice,
     instance: u64,
+    message: &mut Message,
     gone: &mut Vec<Gone>,
 ) -> Result<(), AllocError>
     requires instance { instance < INSTANCES }
@@ -159,9 +155,8 @@ fn send_notice<E: Edge>(
     ensures later { Later (E.faults edge.old) (E.faults edge.new) }
     ensures kept { Stays E.extent edge.old edge.new }
 {
-    let text = notice_text(alloc, notice, instance)?;
-    let bytes = ask(alloc, &text)?;
-    match send(edge, &bytes) {
+    message.write_notice(notice, instance)?;
+    match send(edge, &message.bytes) {
         Some(ch) => note(gone, &Gone::Noted(notice.number, ch)),
         None => Ok(()),
     }

@@ -4,7 +4,8 @@
 //! fits, and can't be sent. A `Durable` is a record that lasts, and only a commit makes one. Between a plan and its open gate
 //! nothing but the device can refuse.
 //!
-//! It may cite `iss_edge`, `iss_channels`, `iss_journal`, `iss_codec`, `iss_core`, `iss_link`, `iss_event`, `iss_texts`, `iss_model` and its laws.
+//! It may cite `iss_edge`, `iss_channels`, `iss_journal`, `iss_codec`, `iss_core`, `iss_http`, `iss_jit`, `iss_session`, `iss_link`,
+//! `iss_event`, `iss_texts`, `iss_model` and its laws.
 //! It must not cite lines that come in, nor what a run is for.
 #![tactic(auto)]
 
@@ -12,14 +13,16 @@ mod durable;
 mod entries;
 mod fault;
 mod laws;
+mod message;
 mod opening;
 mod planned;
+mod releasing;
 mod routes;
 mod saying;
 mod sending;
-mod served;
 mod serving;
 mod store;
+mod waiting;
 
 pub use durable::Durable;
 pub use fault::{OpenFault, PlanFault, StoreFault};
@@ -29,5 +32,4 @@ pub use laws::{
 pub use planned::Planned;
 pub use routes::Routes;
 pub use sending::reply;
-pub use served::Served;
 pub use store::Store;

@@ -1,6 +1,6 @@
 //! What a gateway answers over HTTP, and the texts that are sent.
 use crate::filled::filled;
-use iss_http::{Answer, AnswerReader, ask, respond};
+use iss_http::{Answer, AnswerReader, ask, respond, write_ask, write_response};
 use std::alloc::{AllocError, Global};
 use std::test::Fail;
 
@@ -181,14 +181,19 @@ const RESPONSES: [(u16, &str, &str); 7] = [
 
 #[test]
 fn texts_that_are_sent(rt: HostRuntime) -> Result<(), Fail> {
+    let mut written = Vec::new(rt.alloc());
     for (status, body, want) in RESPONSES {
         assert!(rt; matches!(status, 200 | 400 | 404 | 409 | 507));
         let text = respond(rt.alloc(), status, body.as_bytes())?;
         assert!(rt; text.as_slice() == want.as_bytes(), "{status}: {body}");
+        write_response(&mut written, status, body.as_bytes())?;
+        assert!(rt; written.as_slice() == want.as_bytes(), "{status}: {body}");
     }
+    write_ask(&mut written, b"{\"amount\":\"38.20\"}")?;
     let asked = ask(rt.alloc(), b"{\"amount\":\"38.20\"}")?;
     let want =
         "POST /jit HTTP/1.1\r\nHost: localhost\r\nContent-Type: application/json\r\nContent-Length: 18\r\nConnection: close\r\n\r\n{\"amount\":\"38.20\"}";
+    assert!(rt; written.as_slice() == want.as_bytes());
     assert!(rt; asked.as_slice() == want.as_bytes());
     Ok(())
 }

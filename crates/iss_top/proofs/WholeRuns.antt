@@ -156,12 +156,15 @@ module _ (instance : ℕ) (rs : List Record) (s : StoreNow) (status : ℕ) (took
             let same : actions_of runs.goes.part.steps ≡ actions_of goes.steps =
             append_cancel_left b.trace (actions_of runs.goes.part.steps) (actions_of goes.steps) (sym runs.goes.part.grew ∙ goes.grew) in
             inr (
-              runs.rs',
-              (
-                made_first,
-                subst (λ (l : List Action). EndsAtRest instance rs runs.rs' (opening.good.added ++ l) a d) (sym same)
-                    (ends_at_rest instance rs s a b opening stands runs.rs' runs.goes.said d goes),
-              ),
+            record {
+              made = runs.rs';
+              more = goes.more;
+              history = goes.history stands.history;
+              first = made_first;
+              ends =
+                  subst (λ (l : List Action). EndsAtRest instance rs runs.rs' (opening.good.added ++ l) a d) (sym same)
+                  (ends_at_rest instance rs s a b opening stands runs.rs' runs.goes.said d goes);
+            }
             )
         | inr fails ↦ absurd (other fails)
       ]

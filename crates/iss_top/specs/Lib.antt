@@ -13,3 +13,4 @@ pub mod Replaying
 pub mod Replays
 pub mod Reports
 pub mod DrillRuns
+pub mod Commands

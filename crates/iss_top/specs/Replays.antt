@@ -36,13 +36,18 @@ pub record Replayed (instance : ℕ) (rs : List Record) (lines : List (List ℕ)
   pub stands : DeviceStandsFor instance (records_for (run_on_device instance rs a.device) rs lines) b.device
   pub ends : EndsAtRest instance rs (records_for (run_on_device instance rs a.device) rs lines) actions a b
 
--- Unless a call on the device failed, nothing was done but maybe a sync, or the run ended where the next one begins, with some first ones
--- of the records that stood and those that the input makes.
+-- The run ended where the next one begins, with all records that stood and some first ones of those that the input makes. Together they
+-- are a history.
+pub record EndsAmid (instance : ℕ) (rs : List Record) (actions : List Action) (a b : World) : Type 0 where
+  pub made : List Record
+  pub more : AreFirstOf rs made
+  pub history : AreHistory made
+  pub first : AreFirstOf made (records_for (run_on_device instance rs a.device) rs (lines_of (a.left 0)))
+  pub ends : EndsAtRest instance rs made actions a b
+
+-- unless a call on the device failed, nothing was done but maybe a sync, or the run ended where the next one begins
 abbrev pub EndsSomewhere : ℕ → List Record → List Action → World → World → Type 0
-EndsSomewhere instance rs actions a b =
-    ReadsAlone a b
-    ⊎ ((made : List Record) × (AreFirstOf made (records_for (run_on_device instance rs a.device) rs (lines_of (a.left 0)))
-    × EndsAtRest instance rs made actions a b))
+EndsSomewhere instance rs actions a b = ReadsAlone a b ⊎ EndsAmid instance rs actions a b
 
 -- What a run with this status did on a device that stands for these records. Nothing was done but on the device and on channel 0. What
 -- went out is the transcript of the input, text by text, or a prefix of it. At 0 it is all of it, and the input was read to its end. At 3

@@ -1,8 +1,8 @@
 -- What a run does, whatever status it ends with.
-use Rattle.std.specs.Prelude.{◌≡◌, ◌+◌, ℕ, ◌≤◌, ◌↔◌, ◌⊎◌, List, [], ◌++◌, length, take, Option, IfErr, Result}
+use Rattle.std.specs.Prelude.{◌≡◌, ◌+◌, ℕ, ◌≤◌, ◌↔◌, ◌⊎◌, List, [], ◌++◌, length, take, IfErr, Result}
 use Rattle.iss_edge.specs.declared.status.TheConstants.{DONE, INPUT_FAULT, OUT_OF_MEMORY, INPUT_TOO_LONG}
 use Rattle.iss_edge.specs.declared.outside.Action.{Action}
-use Rattle.iss_edge.specs.World.{World, Told, Faults, Later, Rose}
+use Rattle.iss_edge.specs.World.{World, Faults, Later, Rose}
 use Rattle.iss_model.specs.declared.limits.TheConstants.{MOST_INPUT}
 use Rattle.iss_top.specs.declared.stop.Stop.{Stop}
 use Rattle.iss_top.specs.declared.stop.Stop.TheVariants as stop
@@ -72,10 +72,6 @@ RunCause before now stop.InputLong = Unit {0}
 pub record IsCaused {A : Type 0} (before now : Faults) (result : Result A Stop) : Type 0 where
   pub later : Later before now
   pub cause : IfErr result (RunCause before now)
-
--- R holds by the counts of faults before a run with this status and after it, and by what is told of the world then
-abbrev pub ToldByFaults : {E : Type 0} → (E → Faults) → (E → Option World) → (Faults → Faults → ℕ → World → World → Type 0) → E → E → ℕ → Type 0
-ToldByFaults faults told R a b status = Told (R (faults a) (faults b) status) (told a) (told b)
 
 -- if no count on input or output rose, and the input has at most 4294967296 bytes, the status is 0 or 7
 abbrev pub EndsWell : Faults → Faults → ℕ → World → World → Type 0

@@ -1,14 +1,14 @@
 -- The words of a run, and what they ask for.
 use Rattle.std.specs.Prelude.{ℕ, ◌<◌, ◌≤◌, Bool, not, ◌&&◌, ◌==◌, nat_le, nat_lt, List, [], ◌∷◌, length, map, slice_index, codes, String, string_bytes, Option, Some, None, if◌then◌else◌}
 use Rattle.std.specs.Str.{bytes_eq}
-use Rattle.iss_edge.specs.declared.status.TheConstants.{DONE, USAGE, INPUT_FAULT, BAD_DEVICE, OUTPUT_FAULT, DISK_FAULT, OUT_OF_MEMORY, INPUT_TOO_LONG}
+use Rattle.iss_edge.specs.declared.status.TheConstants.{USAGE}
 use Rattle.iss_amount.specs.Digits.{number_in}
 use Rattle.iss_journal.specs.declared.layout.TheConstants.{HEADER_INSTANCES, LEAST_SIZE, GREATEST_SIZE}
 use Rattle.iss_drill.specs.declared.limits.TheConstants.{MOST_EVENTS}
 use Rattle.iss_top.specs.declared.words.TheConstants.{LONGEST_NAME, GREATEST_INSTANCE, GREATEST_PORT, MOST_TURNS}
 use Rattle.iss_top.specs.declared.words.Command.{Command}
 use Rattle.iss_top.specs.declared.words.Command.TheVariants.{Dry, Format, Replay, Balances, Serve, Drill}
-use Rattle.iss_top.specs.Statuses.{serve_statuses}
+use Rattle.iss_top.specs.Statuses.{dry_statuses, format_statuses, replay_statuses, report_statuses, serve_statuses, drill_statuses}
 
 -- a device's name: 1 to 4096 bytes, of which the first is no minus sign
 abbrev pub is_device : List ℕ → Bool
@@ -86,12 +86,12 @@ IsInRange (Drill n) = (1 ≤ n) × (n ≤ MOST_EVENTS)
 
 -- the statuses that a run by these words may end with
 abbrev pub statuses : Option Command → List ℕ
-statuses (Some Dry) = DONE ∷ INPUT_FAULT ∷ OUTPUT_FAULT ∷ OUT_OF_MEMORY ∷ INPUT_TOO_LONG ∷ []
-statuses (Some (Format size instance)) = DONE ∷ BAD_DEVICE ∷ DISK_FAULT ∷ []
-statuses (Some Replay) = DONE ∷ INPUT_FAULT ∷ BAD_DEVICE ∷ OUTPUT_FAULT ∷ DISK_FAULT ∷ OUT_OF_MEMORY ∷ INPUT_TOO_LONG ∷ []
-statuses (Some Balances) = DONE ∷ BAD_DEVICE ∷ OUTPUT_FAULT ∷ DISK_FAULT ∷ OUT_OF_MEMORY ∷ []
+statuses (Some Dry) = dry_statuses
+statuses (Some (Format size instance)) = format_statuses
+statuses (Some Replay) = replay_statuses
+statuses (Some Balances) = report_statuses
 statuses (Some (Serve port gateway turns)) = serve_statuses
-statuses (Some (Drill n)) = DONE ∷ OUTPUT_FAULT ∷ OUT_OF_MEMORY ∷ []
+statuses (Some (Drill n)) = drill_statuses
 statuses None = USAGE ∷ []
 
 -- if the words ask for a dry run, this holds
@@ -114,7 +114,7 @@ OnFormat (Some (Serve port gateway turns)) P = Unit {0}
 OnFormat (Some (Drill n)) P = Unit {0}
 OnFormat None P = Unit {0}
 
--- if the words ask for a run on a device, this holds
+-- if the words ask for a run on a device that takes lines, this holds
 abbrev pub OnReplay : Option Command → Type 0 → Type 0
 OnReplay (Some Replay) P = P
 OnReplay (Some Dry) P = Unit {0}

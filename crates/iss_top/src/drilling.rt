@@ -1,8 +1,9 @@
 //! A drill, and the status that it ends with.
-ghost use Rattle.std.specs.Prelude.{◌≡◌, ◌==◌, ◌≤◌, [], ◌∷◌, IsTrue};
+ghost use Rattle.std.specs.Prelude.{◌≡◌, ◌==◌, ◌≤◌, IsTrue};
 ghost use Rattle.std.specs.List.{list_any};
 ghost use Rattle.iss_edge.specs.World.{Told, Rose};
 ghost use Rattle.iss_drill.specs.declared.limits.TheConstants.{MOST_EVENTS};
+ghost use Rattle.iss_top.specs.Statuses.{drill_statuses};
 ghost use Rattle.iss_top.specs.DrillRuns.{DrillRun, DrillEndsWell};
 
 use iss_drill::{DrillFault, drill};
@@ -16,7 +17,7 @@ pub(crate) fn drilled<E: Edge>(alloc: Global, n: u32, edge: &mut E) -> u8
     requires least { 1 ≤ n }
     requires most { n ≤ MOST_EVENTS }
     ensures ran { Told (DrillRun n result) (E.told edge.old) (E.told edge.new) }
-    ensures known { IsTrue (list_any (λ status. result == status) (DONE ∷ OUTPUT_FAULT ∷ OUT_OF_MEMORY ∷ [])) }
+    ensures known { IsTrue (list_any (λ status. result == status) drill_statuses) }
     ensures ends_well { DrillEndsWell (E.faults edge.old) (E.faults edge.new) result }
     ensures output_fault { result ≡ OUTPUT_FAULT → Rose (E.faults edge.old).output (E.faults edge.new).output }
 {

@@ -1,8 +1,9 @@
 //! Formatting a device.
-ghost use Rattle.std.specs.Prelude.{◌≡◌, ◌==◌, ◌↔◌, ◌≤◌, ◌<◌, [], ◌∷◌, IsTrue};
+ghost use Rattle.std.specs.Prelude.{◌≡◌, ◌==◌, ◌↔◌, ◌≤◌, ◌<◌, IsTrue};
 ghost use Rattle.std.specs.List.{list_any};
 ghost use Rattle.iss_edge.specs.World.{Rose};
 ghost use Rattle.iss_journal.specs.declared.layout.TheConstants.{HEADER_INSTANCES, LEAST_SIZE, GREATEST_SIZE};
+ghost use Rattle.iss_top.specs.Statuses.{format_statuses};
 ghost use Rattle.iss_top.specs.FormatRuns.{FormatRunOn};
 
 use iss_edge::Edge;
@@ -16,7 +17,7 @@ pub(crate) fn format<E: Edge>(edge: &mut E, size: u64, instance: u64) -> u8
     requires most { size ≤ GREATEST_SIZE }
     requires small { instance < HEADER_INSTANCES }
     ensures ran { FormatRunOn E.extent E.faults E.told edge.old edge.new size instance result }
-    ensures known { IsTrue (list_any (λ status. result == status) (DONE ∷ BAD_DEVICE ∷ DISK_FAULT ∷ [])) }
+    ensures known { IsTrue (list_any (λ status. result == status) format_statuses) }
     ensures other_size { (result ≡ BAD_DEVICE) ↔ (E.extent edge.old ≡ size → ⊥) }
     ensures untouched { result ≡ BAD_DEVICE → edge.new ≡ edge.old }
     ensures disk_fault { result ≡ DISK_FAULT → Rose (E.faults edge.old).disk (E.faults edge.new).disk }

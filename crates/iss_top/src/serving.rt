@@ -1,11 +1,11 @@
 //! A run that serves clients and the gateway over a device.
 ghost use Rattle.std.specs.Prelude.{◌≡◌, ◌==◌, IsTrue};
 ghost use Rattle.std.specs.List.{list_any};
-ghost use Rattle.iss_edge.specs.World.{Rose};
+ghost use Rattle.iss_edge.specs.World.{Told, Rose};
 ghost use Rattle.iss_edge.specs.Outer.{ToldBoth};
 ghost use Rattle.iss_device.specs.Refusals.{RefusesExactly};
 ghost use Rattle.iss_top.specs.Statuses.{serve_statuses};
-ghost use Rattle.iss_serve.specs.ServeRuns.{serve_status, ServeRun, OfWorlds, ServeEndsWellOn};
+ghost use Rattle.iss_serve.specs.ServeRuns.{serve_status, ServeRun, ServeEndsWell};
 
 use iss_edge::Edge;
 use iss_edge::status::{BAD_DEVICE, DISK_FAULT, DONE, INPUT_FAULT, OUT_OF_MEMORY};
@@ -17,8 +17,8 @@ use std::alloc::Global;
 pub(crate) fn serve_on_device<E: Edge>(alloc: Global, turns: u32, edge: &mut E) -> u8
     ensures known { IsTrue (list_any (λ status. result == status) serve_statuses) }
     ensures serving { ToldBoth E.told E.heard (ServeRun turns result) edge.old edge.new }
-    ensures refused { ToldBoth E.told E.heard (OfWorlds (RefusesExactly result)) edge.old edge.new }
-    ensures complete { ServeEndsWellOn E.faults E.told E.heard edge.old edge.new result }
+    ensures refused { Told (RefusesExactly result) (E.told edge.old) (E.told edge.new) }
+    ensures complete { Told (ServeEndsWell (E.faults edge.old) (E.faults edge.new) result) (E.told edge.old) (E.told edge.new) }
     ensures input_fault { result ≡ INPUT_FAULT → Rose (E.faults edge.old).input (E.faults edge.new).input }
     ensures disk_fault { result ≡ DISK_FAULT → Rose (E.faults edge.old).disk (E.faults edge.new).disk }
 {

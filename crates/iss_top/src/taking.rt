@@ -5,6 +5,7 @@ ghost use Rattle.iss_model.specs.Forms.{is_in_form, is_stamp, is_stamp_or_none};
 ghost use Rattle.iss_event.specs.FormLines.{form_text};
 ghost use Rattle.iss_texts.specs.Sending.{Says, SaysSome};
 ghost use Rattle.iss_store.specs.Planning.{IsPlanOf};
+ghost use Rattle.iss_store.specs.Routes.{IsLines};
 ghost use Rattle.iss_top.specs.Replaying.{told_line, response_to_line, response_to_plan, texts_left, TakesTo, TakesInPart, IsTaking};
 
 use crate::buffer::is_blank;
@@ -27,11 +28,13 @@ pub(crate) fn take_line<E: Edge>(
     edge: &mut E,
 ) -> Result<Store, Stop>
     requires size { E.extent edge.old ≡ store.place.to }
+    requires lines { IsLines routes.old }
     ensures taken { TakesTo E.told edge.old edge.new (λ s. told_line s line.now) store result }
     ensures part { TakesInPart E.told edge.old edge.new (λ s. told_line s line.now) store result }
     ensures taking { IsTaking (E.faults edge.old) (E.faults edge.new) result }
     ensures kept { Stays E.extent edge.old edge.new }
     ensures size { IfOk result (λ next. next.place.to ≡ store.place.to) }
+    ensures lines { IsLines routes.new }
 {
     if is_blank(line) {
         return Ok(store);
@@ -71,6 +74,7 @@ fn take_input<E: Edge>(
     edge: &mut E,
 ) -> Result<Store, Stop>
     requires size { E.extent edge.old ≡ store.place.to }
+    requires lines { IsLines routes.old }
     requires input_form { IsTrue (is_in_form said.now.input) }
     requires stamp_form { IsTrue (is_stamp_or_none said.now.at) }
     ensures taken { TakesTo E.told edge.old edge.new (response_to_line said.now.input said.now.at) store result }
@@ -78,6 +82,7 @@ fn take_input<E: Edge>(
     ensures taking { IsTaking (E.faults edge.old) (E.faults edge.new) result }
     ensures kept { Stays E.extent edge.old edge.new }
     ensures size { IfOk result (λ next. next.place.to ≡ store.place.to) }
+    ensures lines { IsLines routes.new }
 {
     let at = said.at.unwrap_or(0);
     match store.plan(alloc, &said.input, at) {
@@ -107,12 +112,14 @@ fn keep<E: Edge>(
     edge: &mut E,
 ) -> Result<Store, Stop>
     requires size { E.extent edge.old ≡ store.place.to }
+    requires lines { IsLines routes.old }
     requires plan { IsPlanOf store planned }
     ensures taken { TakesTo E.told edge.old edge.new (response_to_plan planned) store result }
     ensures part { TakesInPart E.told edge.old edge.new (response_to_plan planned) store result }
     ensures taking { IsTaking (E.faults edge.old) (E.faults edge.new) result }
     ensures kept { Stays E.extent edge.old edge.new }
     ensures size { IfOk result (λ next. next.place.to ≡ store.place.to) }
+    ensures lines { IsLines routes.new }
 {
     let (next, durable) = store.commit(alloc, edge, planned)?;
     next.release(alloc, edge, durable, routes)?;
@@ -125,15 +132,17 @@ fn tell_answer_left<E: Edge>(
     store: &Store,
     input: &Input,
     at: u64,
-    routes: &Routes,
+    routes: &mut Routes,
     edge: &mut E,
 ) -> Result<(), Stop>
+    requires lines { IsLines routes.old }
     requires input_form { IsTrue (is_in_form input.now) }
     requires stamp_form { IsTrue (is_stamp at) }
     ensures told { OnOk result (Told (Says (texts_left store.now input.now at)) (E.told edge.old) (E.told edge.new)) }
     ensures part { OnErr result (Told (SaysSome (texts_left store.now input.now at)) (E.told edge.old) (E.told edge.new)) }
     ensures taking { IsTaking (E.faults edge.old) (E.faults edge.new) result }
     ensures kept { Stays E.extent edge.old edge.new }
+    ensures lines { IsLines routes.new }
 {
     match store.core().judge(alloc, input, at)? {
         Judged::Told(answer) => {

@@ -15,6 +15,7 @@ again-init g c = record {
   judged = λ rest. told_on_self (to_judge c.args.store (seen_held c.args.held.now) (queued_as c.args.queued.now ∷ rest)) (outer_of (g.E.Edge.told c.args.edge.now) (g.E.Edge.heard c.args.edge.now));
   judges = judges_self c.args.store c.args.held.now c.requires.held c.requires.instance;
   size = c.requires.size;
+  alone = λ told. told;
   later = later_self (g.E.Edge.faults c.args.edge.now);
   kept = refl;
 }
@@ -47,6 +48,7 @@ again-preserved g c =
           c.if-not-more.false (c.in_ok-after.ensures.judged rest));
       judges = judges_then c.args.store c.again.next c.in_ok-after.after c.args.held.now c.again.held c.judge_once.new.held c.again.invariant.judges c.in_ok-after.ensures.judges;
       size = c.judge_once.ensures.kept ∙ c.again.invariant.size ∙ sym c.in_ok-after.ensures.judges.to;
+      alone = λ told. c.again.invariant.alone (c.judge_once.ensures.alone told);
       later = later_then _ _ _ c.again.invariant.later c.judge_once.ensures.caused.later;
       kept = c.judge_once.ensures.kept ∙ c.again.invariant.kept;
     }

@@ -2,6 +2,7 @@ use Rattle.std.proofs.Common.{◌≡◌, List, ◌∷◌}
 use Rattle.iss_edge.specs.World.{Told, Later}
 use Rattle.iss_edge.specs.Outer.{outer_of}
 use Rattle.iss_session.specs.Sessions.{Queued}
+use Rattle.iss_link.specs.Worlds.{StillTold}
 use Rattle.iss_serve.specs.Held.{seen_held, queued_as, to_judge, records_left}
 use Rattle.iss_serve.specs.Judged.{Judges}
 use Rattle.iss_serve.specs.Runs.{ServesOn}
@@ -13,6 +14,7 @@ invariant-again g l = record {
       (outer_of (g.E.Edge.told l.initial.edge) (g.E.Edge.heard l.initial.edge)) (outer_of (g.E.Edge.told l.edge) (g.E.Edge.heard l.edge));
   judges : Judges l.initial.next l.next l.initial.held l.held;
   size : g.E.Edge.extent l.edge ≡ l.next.place.to;
+  alone : StillTold g.E.Edge.told l.initial.edge l.edge;
   later : Later (g.E.Edge.faults l.initial.edge) (g.E.Edge.faults l.edge);
   kept : g.E.Edge.extent l.edge ≡ g.E.Edge.extent l.initial.edge;
 }

@@ -18,6 +18,7 @@ loop-call-init g c = record {
   judged = told_on_self (to_judge c.args.store (seen_held c.args.held.now) (answers_unreached c.args.calls.now)) (outer_of (g.E.Edge.told c.args.edge.now) (g.E.Edge.heard c.args.edge.now));
   judges = judges_self c.args.store c.args.held.now c.requires.held c.requires.instance;
   size = c.requires.size;
+  alone = λ told. told;
   later = later_self (g.E.Edge.faults c.args.edge.now);
   kept = refl;
 }
@@ -57,6 +58,7 @@ loop-call-preserved g c =
           (outer_of (g.E.Edge.told c.args.edge.now) (g.E.Edge.heard c.args.edge.now)) (outer_of (g.E.Edge.told c.loop-call.edge) (g.E.Edge.heard c.loop-call.edge)) (outer_of (g.E.Edge.told c.judge.new.edge) (g.E.Edge.heard c.judge.new.edge)) judged (c.in_ok-next.ensures.judged (answers_unreached (drop (i + 1) calls)));
       judges = judges_then c.args.store c.loop-call.next c.in_ok-next.next c.args.held.now c.loop-call.held c.judge.new.held c.loop-call.invariant.judges c.in_ok-next.ensures.judges;
       size = c.judge.ensures.kept ∙ c.loop-call.invariant.size ∙ sym c.in_ok-next.ensures.judges.to;
+      alone = λ told. c.loop-call.invariant.alone (c.judge.ensures.alone told);
       later = later_then _ _ _ c.loop-call.invariant.later c.judge.ensures.caused.later;
       kept = c.judge.ensures.kept ∙ c.loop-call.invariant.kept;
     }

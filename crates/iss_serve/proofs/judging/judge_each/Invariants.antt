@@ -1,6 +1,7 @@
 use Rattle.std.proofs.Common.{◌≡◌, drop}
 use Rattle.iss_edge.specs.World.{Told, Later}
 use Rattle.iss_edge.specs.Outer.{outer_of}
+use Rattle.iss_link.specs.Worlds.{StillTold}
 use Rattle.iss_serve.specs.Held.{seen_held, to_judge, answers_unreached}
 use Rattle.iss_serve.specs.Judged.{Judges}
 use Rattle.iss_serve.specs.Runs.{ServesOn}
@@ -12,6 +13,7 @@ invariant-loop-call g l = record {
       (outer_of (g.E.Edge.told l.initial.edge) (g.E.Edge.heard l.initial.edge)) (outer_of (g.E.Edge.told l.edge) (g.E.Edge.heard l.edge));
   judges : Judges l.initial.next l.next l.initial.held l.held;
   size : g.E.Edge.extent l.edge ≡ l.next.place.to;
+  alone : StillTold g.E.Edge.told l.initial.edge l.edge;
   later : Later (g.E.Edge.faults l.initial.edge) (g.E.Edge.faults l.edge);
   kept : g.E.Edge.extent l.edge ≡ g.E.Edge.extent l.initial.edge;
 }

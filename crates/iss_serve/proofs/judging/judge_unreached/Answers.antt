@@ -16,6 +16,7 @@ calls-init g c = record {
   turns = refl;
   to = refl;
   size = c.requires.size;
+  alone = λ told. told;
   later = later_self (g.E.Edge.faults c.args.edge.now);
   kept = refl;
 }
@@ -49,6 +50,7 @@ calls-preserved g c =
       turns = c.in_ok-next.ensures.judges.turns ∙ ap (λ (n : HeldNow). n.turns) c.take_unreached-calls.ensures.now ∙ c.calls.invariant.turns;
       to = c.in_ok-next.ensures.judges.to ∙ c.calls.invariant.to;
       size = c.judge_each.ensures.kept ∙ c.calls.invariant.size ∙ sym c.in_ok-next.ensures.judges.to;
+      alone = λ told. c.calls.invariant.alone (c.judge_each.ensures.alone told);
       later = later_then _ _ _ c.calls.invariant.later c.judge_each.ensures.caused.later;
       kept = c.judge_each.ensures.kept ∙ c.calls.invariant.kept;
     }

@@ -1,6 +1,7 @@
 use Rattle.std.proofs.Common.{◌≡◌}
 use Rattle.iss_edge.specs.World.{Told, Later}
 use Rattle.iss_edge.specs.Outer.{outer_of}
+use Rattle.iss_link.specs.Worlds.{StillTold}
 use Rattle.iss_serve.specs.Held.{seen_held, idle, IsHeld, IsOf, records_left}
 use Rattle.iss_serve.specs.Runs.{ServesOn}
 use Rattle.iss_serve.proofs.Loops.{work_left}
@@ -15,6 +16,7 @@ invariant-calls g l = record {
   turns : l.held.turns ≡ l.initial.held.turns;
   to : l.next.place.to ≡ l.initial.next.place.to;
   size : g.E.Edge.extent l.edge ≡ l.next.place.to;
+  alone : StillTold g.E.Edge.told l.initial.edge l.edge;
   later : Later (g.E.Edge.faults l.initial.edge) (g.E.Edge.faults l.edge);
   kept : g.E.Edge.extent l.edge ≡ g.E.Edge.extent l.initial.edge;
 }

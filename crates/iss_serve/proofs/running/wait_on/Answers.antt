@@ -13,6 +13,7 @@ turns-init g c = record {
   instance = c.requires.instance;
   settled = c.requires.settled;
   size = c.requires.size;
+  alone = λ told. told;
   later = later_self (g.E.Edge.faults c.args.edge.now);
 }
 
@@ -32,5 +33,6 @@ turns-preserved g c = record {
   instance = c.in_ok-next.ensures.instance;
   settled = c.in_ok-next.ensures.settled;
   size = c.turn.ensures.kept ∙ c.turns.invariant.size ∙ sym c.in_ok-next.ensures.to;
+  alone = λ told. c.turns.invariant.alone (c.turn.ensures.alone told);
   later = later_then _ _ _ c.turns.invariant.later c.turn.ensures.caused.later;
 }

@@ -1,6 +1,7 @@
 use Rattle.std.proofs.Common.{◌≡◌, []}
 use Rattle.iss_edge.specs.World.{Told, Later}
 use Rattle.iss_edge.specs.Outer.{outer_of}
+use Rattle.iss_link.specs.Worlds.{StillTold}
 use Rattle.iss_serve.specs.Held.{seen_held, idle, IsHeld, IsOf}
 use Rattle.iss_serve.specs.Runs.{ServesOn}
 use Rattle.iss_serve.proofs.running.wait_on.Given as goal
@@ -13,6 +14,7 @@ invariant-turns g l = record {
   instance : IsOf l.next l.held;
   settled : l.held.unreached.items ≡ [];
   size : g.E.Edge.extent l.edge ≡ l.next.place.to;
+  alone : StillTold g.E.Edge.told l.initial.edge l.edge;
   later : Later (g.E.Edge.faults l.initial.edge) (g.E.Edge.faults l.edge);
 }
 

@@ -10,7 +10,7 @@ use Rattle.iss_store.proofs.entries.send_entries.Goals as goal
 
 pub returns-in_err-send_entry-clause-part : goal.returns-in_err-send_entry-clause-part
 returns-in_err-send_entry-clause-part g c =
-    let tasks = tasks_by c.args.instance c.args.served.now in
+    let tasks = tasks_by c.args.instance c.args.waiters.now in
     let entries = c.args.entries.now in
     let i = c.loop-entry.entry-index in
     let within : i < length entries = omega arith in
@@ -32,7 +32,7 @@ returns-in_err-send_entry-clause-stays g c =
 
 pub loop-entry-preserved : goal.loop-entry-preserved
 loop-entry-preserved g c =
-    let tasks = tasks_by c.args.instance c.args.served.now in
+    let tasks = tasks_by c.args.instance c.args.waiters.now in
     let entries = c.args.entries.now in
     let i = c.loop-entry.entry-index in
     let within : i < length entries = omega arith in

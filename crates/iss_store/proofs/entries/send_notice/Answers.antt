@@ -12,7 +12,7 @@ pub returns-in-Some-clause-notes : goal.returns-in-Some-clause-notes
 returns-in-Some-clause-notes g c =
     let text = notice_text c.args.instance c.args.notice.now in
     let subject = of_notice c.args.notice.now.number in
-    let bytes : c.deref-2.result.now ≡ ask text = c.deref-2.ensures.value ∙ c.in_ok-bytes.ensures ∙ ap ask (c.deref.ensures.value ∙ c.in_ok-text.ensures) in
+    let bytes : c.deref.result.now ≡ ask text = c.deref.ensures.value ∙ c.in_ok-write_notice.ensures in
     let x = outer_of (g.E.Edge.told c.args.edge.now) (g.E.Edge.heard c.args.edge.now) in
     let y = outer_of (g.E.Edge.told c.send.new.edge) (g.E.Edge.heard c.send.new.edge) in
     let f = g.E.Edge.faults c.args.edge.now in
@@ -25,16 +25,16 @@ pub returns-in-Some-clause-part : goal.returns-in-Some-clause-part
 returns-in-Some-clause-part g c =
     let text = notice_text c.args.instance c.args.notice.now in
     let subject = of_notice c.args.notice.now.number in
-    let bytes : c.deref-2.result.now ≡ ask text = c.deref-2.ensures.value ∙ c.in_ok-bytes.ensures ∙ ap ask (c.deref.ensures.value ∙ c.in_ok-text.ensures) in
+    let bytes : c.deref.result.now ≡ ask text = c.deref.ensures.value ∙ c.in_ok-write_notice.ensures in
     let x = outer_of (g.E.Edge.told c.args.edge.now) (g.E.Edge.heard c.args.edge.now) in
     let y = outer_of (g.E.Edge.told c.send.new.edge) (g.E.Edge.heard c.send.new.edge) in
     text_in_part_if c.note.result subject text c.send.result x y (λ level tasks waiting. c.send.ensures.sends level subject text tasks waiting bytes)
 
-pub returns-clause-notes : goal.returns-clause-notes
-returns-clause-notes g c =
+pub returns-in-None-clause-notes : goal.returns-in-None-clause-notes
+returns-in-None-clause-notes g c =
     let text = notice_text c.args.instance c.args.notice.now in
     let subject = of_notice c.args.notice.now.number in
-    let bytes : c.deref-2.result.now ≡ ask text = c.deref-2.ensures.value ∙ c.in_ok-bytes.ensures ∙ ap ask (c.deref.ensures.value ∙ c.in_ok-text.ensures) in
+    let bytes : c.deref.result.now ≡ ask text = c.deref.ensures.value ∙ c.in_ok-write_notice.ensures in
     let x = outer_of (g.E.Edge.told c.args.edge.now) (g.E.Edge.heard c.args.edge.now) in
     let y = outer_of (g.E.Edge.told c.send.new.edge) (g.E.Edge.heard c.send.new.edge) in
     let f = g.E.Edge.faults c.args.edge.now in

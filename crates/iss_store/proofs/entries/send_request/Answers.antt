@@ -12,7 +12,7 @@ pub returns-in-Some-clause-notes : goal.returns-in-Some-clause-notes
 returns-in-Some-clause-notes g c =
     let text = request_text c.args.instance c.args.opened.now in
     let subject = of_call c.args.opened.now in
-    let bytes : c.deref-2.result.now ≡ ask text = c.deref-2.ensures.value ∙ c.in_ok-bytes.ensures ∙ ap ask (c.deref.ensures.value ∙ c.in_ok-text.ensures) in
+    let bytes : c.deref.result.now ≡ ask text = c.deref.ensures.value ∙ c.in_ok-write_request.ensures in
     let x = outer_of (g.E.Edge.told c.args.edge.now) (g.E.Edge.heard c.args.edge.now) in
     let y = outer_of (g.E.Edge.told c.send.new.edge) (g.E.Edge.heard c.send.new.edge) in
     let f = g.E.Edge.faults c.args.edge.now in
@@ -25,16 +25,16 @@ pub returns-in-Some-clause-part : goal.returns-in-Some-clause-part
 returns-in-Some-clause-part g c =
     let text = request_text c.args.instance c.args.opened.now in
     let subject = of_call c.args.opened.now in
-    let bytes : c.deref-2.result.now ≡ ask text = c.deref-2.ensures.value ∙ c.in_ok-bytes.ensures ∙ ap ask (c.deref.ensures.value ∙ c.in_ok-text.ensures) in
+    let bytes : c.deref.result.now ≡ ask text = c.deref.ensures.value ∙ c.in_ok-write_request.ensures in
     let x = outer_of (g.E.Edge.told c.args.edge.now) (g.E.Edge.heard c.args.edge.now) in
     let y = outer_of (g.E.Edge.told c.send.new.edge) (g.E.Edge.heard c.send.new.edge) in
     text_in_part_if c.note.result subject text c.send.result x y (λ level tasks waiting. c.send.ensures.sends level subject text tasks waiting bytes)
 
-pub returns-clause-notes : goal.returns-clause-notes
-returns-clause-notes g c =
+pub returns-in-None-clause-notes : goal.returns-in-None-clause-notes
+returns-in-None-clause-notes g c =
     let text = request_text c.args.instance c.args.opened.now in
     let subject = of_call c.args.opened.now in
-    let bytes : c.deref-2.result.now ≡ ask text = c.deref-2.ensures.value ∙ c.in_ok-bytes.ensures ∙ ap ask (c.deref.ensures.value ∙ c.in_ok-text.ensures) in
+    let bytes : c.deref.result.now ≡ ask text = c.deref.ensures.value ∙ c.in_ok-write_request.ensures in
     let x = outer_of (g.E.Edge.told c.args.edge.now) (g.E.Edge.heard c.args.edge.now) in
     let y = outer_of (g.E.Edge.told c.send.new.edge) (g.E.Edge.heard c.send.new.edge) in
     let f = g.E.Edge.faults c.args.edge.now in
@@ -43,11 +43,11 @@ returns-clause-notes g c =
     notes_text_if c.note-in-None.result subject text c.send.result (Unreached c.args.opened.now.call ∷ []) c.args.gone.now.items c.note-in-None.new.gone.items ended f h x y c.note-in-None.ensures.noted
     (ap (gone_on subject) c.in-None.is) (unreached_one f h c.args.opened.now.call c.send.ensures.later (c.send.ensures.unsent c.in-None.is)) (λ level tasks waiting. c.send.ensures.sends level subject text tasks waiting bytes)
 
-pub returns-clause-part : goal.returns-clause-part
-returns-clause-part g c =
+pub returns-in-None-clause-part : goal.returns-in-None-clause-part
+returns-in-None-clause-part g c =
     let text = request_text c.args.instance c.args.opened.now in
     let subject = of_call c.args.opened.now in
-    let bytes : c.deref-2.result.now ≡ ask text = c.deref-2.ensures.value ∙ c.in_ok-bytes.ensures ∙ ap ask (c.deref.ensures.value ∙ c.in_ok-text.ensures) in
+    let bytes : c.deref.result.now ≡ ask text = c.deref.ensures.value ∙ c.in_ok-write_request.ensures in
     let x = outer_of (g.E.Edge.told c.args.edge.now) (g.E.Edge.heard c.args.edge.now) in
     let y = outer_of (g.E.Edge.told c.send.new.edge) (g.E.Edge.heard c.send.new.edge) in
     text_in_part_if c.note-in-None.result subject text c.send.result x y (λ level tasks waiting. c.send.ensures.sends level subject text tasks waiting bytes)

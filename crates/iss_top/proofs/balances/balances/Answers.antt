@@ -3,7 +3,7 @@ use Rattle.iss_core.specs.Values.{CoreNow, CoreStandsFor}
 use Rattle.iss_texts.proofs.Rows.{all_end}
 use Rattle.iss_top.specs.declared.stop.Stop.TheVariants as stop
 use Rattle.iss_top.specs.Statuses.{stop_of_opening}
-use Rattle.iss_top.proofs.ToldReports.{IsReportOf, told_unopened_report, told_unopened_report_moments, told_unmade_report, told_unmade_moments, told_stopped_report, told_stopped_moments, told_stopped_refuses, told_report, told_report_moments, told_report_refuses}
+use Rattle.iss_top.proofs.ToldReports.{IsReportOf, told_unopened_report, told_unopened_report_moments, told_unmade_report, told_unmade_moments, told_unmade_refuses, told_stopped_report, told_stopped_moments, told_stopped_refuses, told_report, told_report_moments, told_report_refuses}
 use Rattle.iss_top.proofs.balances.balances.Goals as goal
 
 pub returns-in_err-store-clause-ran : goal.returns-in_err-store-clause-ran
@@ -25,6 +25,11 @@ returns-in_err-lines-clause-ran g c =
 pub returns-in_err-lines-clause-moments : goal.returns-in_err-lines-clause-moments
 returns-in_err-lines-clause-moments g c =
     told_unmade_moments c.in_ok-store.store (g.E.Edge.told c.args.edge.now) (g.E.Edge.told c.open.new.edge) c.in_ok-store.ensures.opened
+
+pub returns-in_err-lines-clause-refused : goal.returns-in_err-lines-clause-refused
+returns-in_err-lines-clause-refused g c =
+    let failed : c.from_residual-in_err-lines.result ≡ Err stop.Memory = search rules in
+    rw failed (told_unmade_refuses c.in_ok-store.store (g.E.Edge.told c.args.edge.now) (g.E.Edge.told c.open.new.edge) c.in_ok-store.ensures.opened)
 
 pub send-requires : goal.send-requires
 send-requires g c =

@@ -18,34 +18,34 @@ pub returns-in_err-resume-clause-ran : goal.returns-in_err-resume-clause-ran
 returns-in_err-resume-clause-ran g c =
     let failed : c.from_residual-in_err-resume.result ≡ Err (stop_of_store c.in_err-resume.field-0.0) = search rules in
     rw failed (
-    told_waited_run c.in_ok-store.store c.in_err-resume.ensures.on_book (g.E.Edge.told c.args.edge.now) (g.E.Edge.told c.open.new.edge) (g.E.Edge.told c.resume.new.edge) c.in_ok-store.ensures.opened
-    c.in_err-resume.field-0.0 (g.E.Edge.faults c.open.new.edge) (g.E.Edge.faults c.resume.new.edge) c.in_err-resume.ensures.cause c.in_err-resume.ensures.part
+    told_waited_run c.in_ok-store.store c.in_err-resume.ensures.lines_on_book (g.E.Edge.told c.args.edge.now) (g.E.Edge.told c.open.new.edge) (g.E.Edge.told c.resume.new.edge) c.in_ok-store.ensures.opened
+    c.in_err-resume.field-0.0 (g.E.Edge.faults c.open.new.edge) (g.E.Edge.faults c.resume.new.edge) c.in_err-resume.ensures.cause (c.in_err-resume.ensures.lines c.lines.ensures).part
     )
 
 pub returns-in_err-resume-clause-moments : goal.returns-in_err-resume-clause-moments
 returns-in_err-resume-clause-moments g c =
-    told_waited_moments c.in_ok-store.store c.in_err-resume.ensures.on_book (g.E.Edge.told c.args.edge.now) (g.E.Edge.told c.open.new.edge) (g.E.Edge.told c.resume.new.edge) c.in_ok-store.ensures.opened
-    c.in_err-resume.field-0.0 (g.E.Edge.faults c.open.new.edge) (g.E.Edge.faults c.resume.new.edge) c.in_err-resume.ensures.cause c.in_err-resume.ensures.part
+    told_waited_moments c.in_ok-store.store c.in_err-resume.ensures.lines_on_book (g.E.Edge.told c.args.edge.now) (g.E.Edge.told c.open.new.edge) (g.E.Edge.told c.resume.new.edge) c.in_ok-store.ensures.opened
+    c.in_err-resume.field-0.0 (g.E.Edge.faults c.open.new.edge) (g.E.Edge.faults c.resume.new.edge) c.in_err-resume.ensures.cause (c.in_err-resume.ensures.lines c.lines.ensures).part
 
 pub returns-in_err-resume-clause-refused : goal.returns-in_err-resume-clause-refused
 returns-in_err-resume-clause-refused g c =
     let failed : c.from_residual-in_err-resume.result ≡ Err (stop_of_store c.in_err-resume.field-0.0) = search rules in
     rw failed (
-    told_waited_refuses c.in_ok-store.store c.in_err-resume.ensures.on_book (g.E.Edge.told c.args.edge.now) (g.E.Edge.told c.open.new.edge) (g.E.Edge.told c.resume.new.edge) c.in_ok-store.ensures.opened
-    c.in_err-resume.field-0.0 (g.E.Edge.faults c.open.new.edge) (g.E.Edge.faults c.resume.new.edge) c.in_err-resume.ensures.cause c.in_err-resume.ensures.part
+    told_waited_refuses c.in_ok-store.store c.in_err-resume.ensures.lines_on_book (g.E.Edge.told c.args.edge.now) (g.E.Edge.told c.open.new.edge) (g.E.Edge.told c.resume.new.edge) c.in_ok-store.ensures.opened
+    c.in_err-resume.field-0.0 (g.E.Edge.faults c.open.new.edge) (g.E.Edge.faults c.resume.new.edge) c.in_err-resume.ensures.cause (c.in_err-resume.ensures.lines c.lines.ensures).part
     )
 
 pub returns-clause-ran : goal.returns-clause-ran
 returns-clause-ran g c =
-    told_run c.in_ok-store.store c.in_ok-resume.ensures.on_book (g.E.Edge.told c.args.edge.now) (g.E.Edge.told c.open.new.edge) (g.E.Edge.told c.resume.new.edge) c.in_ok-store.ensures.opened
-    (stop_status c.take_lines.result) c.take_lines.ensures.no_device (g.E.Edge.told c.take_lines.new.edge) c.in_ok-resume.ensures.says c.take_lines.ensures.ran
+    told_run c.in_ok-store.store c.in_ok-resume.ensures.lines_on_book (g.E.Edge.told c.args.edge.now) (g.E.Edge.told c.open.new.edge) (g.E.Edge.told c.resume.new.edge) c.in_ok-store.ensures.opened
+    (stop_status c.take_lines.result) c.take_lines.ensures.no_device (g.E.Edge.told c.take_lines.new.edge) (c.in_ok-resume.ensures.lines c.lines.ensures).says c.take_lines.ensures.ran
 
 pub returns-clause-moments : goal.returns-clause-moments
 returns-clause-moments g c =
-    told_moments c.in_ok-store.store c.in_ok-resume.ensures.on_book (g.E.Edge.told c.args.edge.now) (g.E.Edge.told c.open.new.edge) (g.E.Edge.told c.resume.new.edge) c.in_ok-store.ensures.opened
-    (stop_status c.take_lines.result) c.take_lines.ensures.no_device (g.E.Edge.told c.take_lines.new.edge) c.in_ok-resume.ensures.says c.take_lines.ensures.ran
+    told_moments c.in_ok-store.store c.in_ok-resume.ensures.lines_on_book (g.E.Edge.told c.args.edge.now) (g.E.Edge.told c.open.new.edge) (g.E.Edge.told c.resume.new.edge) c.in_ok-store.ensures.opened
+    (stop_status c.take_lines.result) c.take_lines.ensures.no_device (g.E.Edge.told c.take_lines.new.edge) (c.in_ok-resume.ensures.lines c.lines.ensures).says c.take_lines.ensures.ran
 
 pub returns-clause-refused : goal.returns-clause-refused
 returns-clause-refused g c =
-    told_run_refuses c.in_ok-store.store c.in_ok-resume.ensures.on_book (g.E.Edge.told c.args.edge.now) (g.E.Edge.told c.open.new.edge) (g.E.Edge.told c.resume.new.edge) c.in_ok-store.ensures.opened
-    (stop_status c.take_lines.result) c.take_lines.ensures.no_device (g.E.Edge.told c.take_lines.new.edge) c.in_ok-resume.ensures.says c.take_lines.ensures.ran
+    told_run_refuses c.in_ok-store.store c.in_ok-resume.ensures.lines_on_book (g.E.Edge.told c.args.edge.now) (g.E.Edge.told c.open.new.edge) (g.E.Edge.told c.resume.new.edge) c.in_ok-store.ensures.opened
+    (stop_status c.take_lines.result) c.take_lines.ensures.no_device (g.E.Edge.told c.take_lines.new.edge) (c.in_ok-resume.ensures.lines c.lines.ensures).says c.take_lines.ensures.ran

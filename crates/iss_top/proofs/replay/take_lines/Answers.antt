@@ -21,6 +21,7 @@ lines-init g c =
       limit = limit_begins c.in_ok-reader.reader fresh;
       told = told_way_begins start c.in_ok-reader.reader (g.E.Edge.told c.args.edge.now) fresh;
       size = c.requires.size ∙ ap (λ (s : StoreNow). s.place.to) (sym c.opened.view_is);
+      routes = c.lines-routes.ensures;
       later = later_self (g.E.Edge.faults c.args.edge.now);
     }
 
@@ -60,6 +61,7 @@ lines-preserved g c =
           (g.E.Edge.told c.args.edge.now) (g.E.Edge.told c.lines.edge) (g.E.Edge.told c.read_line.new.edge) (g.E.Edge.told c.take_line.new.edge)
           c.line-line.ensures c.lines.invariant.told (rw more at c.in_ok-read_line.ensures.reads) c.in_ok-store.ensures.taken;
       size = c.in_ok-store.ensures.kept ∙ c.in_ok-read_line.ensures.kept ∙ c.lines.invariant.size ∙ sym c.in_ok-store.ensures.size;
+      routes = c.in_ok-store.ensures.lines;
       later = later_then _ _ _ c.lines.invariant.later (later_then _ _ _ c.in_ok-read_line.ensures.reading.later c.in_ok-store.ensures.taking.later);
     }
 

@@ -1,6 +1,7 @@
 use Rattle.std.proofs.Common.{◌≡◌, ◌≤◌, ◌+◌, ◌-◌, length}
 use Rattle.iss_edge.specs.World.{Told, Later}
 use Rattle.iss_model.specs.declared.limits.TheConstants.{MOST_INPUT}
+use Rattle.iss_store.specs.Routes.{IsLines}
 use Rattle.iss_top.specs.Reader.{may_come}
 use Rattle.iss_top.specs.Replaying.{IsReplaying}
 use Rattle.iss_top.proofs.replay.take_lines.Given as goal
@@ -10,6 +11,7 @@ invariant-lines g l = record {
   limit : l.reader.taken ≤ MOST_INPUT;
   told : Told (IsReplaying l.initial.store l.store l.reader) (g.E.Edge.told l.initial.edge) (g.E.Edge.told l.edge);
   size : g.E.Edge.extent l.edge ≡ l.store.place.to;
+  routes : IsLines l.routes;
   later : Later (g.E.Edge.faults l.initial.edge) (g.E.Edge.faults l.edge);
 }
 

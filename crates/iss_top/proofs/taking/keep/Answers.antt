@@ -20,11 +20,11 @@ returns-in_err-release-clause-part g c =
     told_kept_part (IsOfDisk why) c.args.store c.in_ok-next.next c.args.planned c.in_ok-next.durable
     (g.E.Edge.told c.args.edge.now) (g.E.Edge.told c.commit.new.edge) (g.E.Edge.told c.release.new.edge)
     (record { commits = c.in_ok-next.ensures.committed; on_book = c.in_ok-next.ensures.on_book })
-    c.in_ok-next.ensures.lasts c.in_err-release.ensures.part)
+    c.in_ok-next.ensures.lasts (c.in_err-release.ensures.lines c.requires.lines).part)
 
 pub returns-clause-taken : goal.returns-clause-taken
 returns-clause-taken g c =
     told_kept c.args.store c.in_ok-next.next c.args.planned c.in_ok-next.durable
     (g.E.Edge.told c.args.edge.now) (g.E.Edge.told c.commit.new.edge) (g.E.Edge.told c.release.new.edge)
     (record { commits = c.in_ok-next.ensures.committed; on_book = c.in_ok-next.ensures.on_book })
-    c.in_ok-next.ensures.lasts c.in_ok-release.ensures.says
+    c.in_ok-next.ensures.lasts (c.in_ok-release.ensures.lines c.requires.lines).says

@@ -35,7 +35,7 @@ returns-in_err-tell-in-Err-Told-clause-part g c =
     (λ why.
     told_answer_part (IsOfDisk why) c.args.store c.args.said.now.input c.args.said.now.at c.unwrap_or-at.result c.in-Err-Told.answer
     (g.E.Edge.told c.args.edge.now) (g.E.Edge.told c.tell.new.edge) c.unwrap_or-at.ensures
-    (rw c.in-Err-Told.field-0-is at c.in-Err-Told.ensures.on_book) c.in_err-tell-in-Err-Told.ensures.part)
+    (rw c.in-Err-Told.field-0-is at c.in-Err-Told.ensures.on_book) (c.in_err-tell-in-Err-Told.ensures.lines c.requires.lines).part)
 
 pub returns-in_ok-tell_answer_left-in-Ok-clause-taken : goal.returns-in_ok-tell_answer_left-in-Ok-clause-taken
 returns-in_ok-tell_answer_left-in-Ok-clause-taken g c =
@@ -48,7 +48,7 @@ pub returns-in_ok-tell-in-Err-Told-clause-taken : goal.returns-in_ok-tell-in-Err
 returns-in_ok-tell-in-Err-Told-clause-taken g c =
     told_answer c.args.store c.args.said.now.input c.args.said.now.at c.unwrap_or-at.result c.in-Err-Told.answer
     (g.E.Edge.told c.args.edge.now) (g.E.Edge.told c.tell.new.edge) c.unwrap_or-at.ensures
-    (rw c.in-Err-Told.field-0-is at c.in-Err-Told.ensures.on_book) c.in_ok-tell-in-Err-Told.ensures.says
+    (rw c.in-Err-Told.field-0-is at c.in-Err-Told.ensures.on_book) (c.in_ok-tell-in-Err-Told.ensures.lines c.requires.lines).says
 
 pub returns-in-Err-OutOfMemory-clause-part : goal.returns-in-Err-OutOfMemory-clause-part
 returns-in-Err-OutOfMemory-clause-part g c =

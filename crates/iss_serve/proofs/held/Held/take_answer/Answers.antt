@@ -26,6 +26,7 @@ queued_of-requires g c = record {
 pub returns-clause-still : goal.returns-clause-still
 returns-clause-still g c = record {
   clock = refl;
+  routes = refl;
   room = refl;
   instance = c.in_ok-heard.ensures.listens.answers.instance;
   turns = refl;

@@ -1,5 +1,5 @@
 use Rattle.iss_store.proofs.Waiters.{more_kept, back_kept}
-use Rattle.iss_store.proofs.served.Served.wait_for.Goals as goal
+use Rattle.iss_store.proofs.waiting.Waiters.wait_for.Goals as goal
 
 pub invariant_of-self-in-Ok : goal.invariant_of-self-in-Ok
 invariant_of-self-in-Ok c =

@@ -3,7 +3,7 @@ use Rattle.std.proofs.lemmas.Result.{IfOk-weaker}
 use Rattle.iss_channels.specs.Placed.{things_of}
 use Rattle.iss_session.specs.Desks.{Waiter}
 use Rattle.iss_store.proofs.Waiters.{channels_as}
-use Rattle.iss_store.proofs.served.Served.channels.Goals as goal
+use Rattle.iss_store.proofs.waiting.Waiters.channels.Goals as goal
 
 pub returns : goal.returns
 returns c =

@@ -1,6 +1,6 @@
 use Rattle.std.proofs.Common.{◌∙◌}
 use Rattle.iss_store.proofs.Waiters.{channel_at, no_channel}
-use Rattle.iss_store.proofs.served.Served.channel_for.Goals as goal
+use Rattle.iss_store.proofs.waiting.Waiters.channel_for.Goals as goal
 
 pub returns-in_err-place : goal.returns-in_err-place
 returns-in_err-place c =

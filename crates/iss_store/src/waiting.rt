@@ -26,16 +26,14 @@ impl OnChannel for Waiting {
     }
 }
 
-/// Where what is said goes out while clients are served. A request or a notice goes on a channel of its own, which is
-/// dialled for it. A decision goes on the channel of the client that waits for it. Contracts see the clients that wait,
-/// in the order in which they came.
+/// Clients that wait. Contracts see them in the order in which they came.
 #[derive(Drop)]
-pub struct Served {
+pub(crate) struct Waiters {
     waiting: ByChannel<Waiting>,
     events: Places<Token>,
 }
 
-impl Model for Served {
+impl Model for Waiters {
     ghost use Rattle.std.specs.Prelude.{List, map};
     ghost use Rattle.iss_channels.specs.Placed.{things_of};
     ghost use Rattle.iss_session.specs.Desks.{Waiter};
@@ -48,19 +46,19 @@ impl Model for Served {
     ghost invariant = { λ s. AreWaitersKept s.events s.waiting };
 }
 
-impl Served {
+impl Waiters {
     /// Nobody waits.
-    pub fn new(alloc: Global) -> Served
+    pub(crate) fn new(alloc: Global) -> Waiters
         ensures { result ≡ [] }
     {
-        Served {
+        Waiters {
             waiting: ByChannel::new(alloc),
             events: Places::new(alloc),
         }
     }
 
     /// A client waits on a channel until an event is decided. If an allocation fails, nothing changes.
-    pub fn wait_for(&mut self, event: &Token, ch: Channel) -> Result<(), AllocError>
+    pub(crate) fn wait_for(&mut self, event: &Token, ch: Channel) -> Result<(), AllocError>
         ensures waits { OnOk result (self.new ≡ self.old ++ record { event = event.now; ch = ch } ∷ []) }
         ensures unchanged { OnErr result (self.new ≡ self.old) }
     {
@@ -76,7 +74,7 @@ impl Served {
     }
 
     /// Nothing waits on a channel any longer.
-    pub fn forget(&mut self, ch: Channel)
+    pub(crate) fn forget(&mut self, ch: Channel)
         ensures { self.new ≡ waiters_without ch self.old }
     {
         while let Some((place, waiting)) = self.waiting.take(ch) {
@@ -94,14 +92,14 @@ impl Served {
     }
 
     /// Whether an event waits on a channel.
-    pub fn waits(&self, ch: Channel) -> bool
+    pub(crate) fn waits(&self, ch: Channel) -> bool
         ensures { result ≡ is_waiting ch self.now }
     {
         self.waiting.find(ch).is_some()
     }
 
     /// The channels on which an event waits, in the order in which they came.
-    pub fn channels(&self, alloc: Global) -> Result<Vec<Channel>, AllocError>
+    pub(crate) fn channels(&self, alloc: Global) -> Result<Vec<Channel>, AllocError>
         ensures { IfOk result (λ v. v.items ≡ map (λ waiter. waiter.ch) self.now) }
     {
         self.waiting.channels(alloc)

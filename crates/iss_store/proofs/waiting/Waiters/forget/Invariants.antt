@@ -1,7 +1,7 @@
 use Rattle.std.proofs.Common.{◌≡◌, ◌==◌, not, filter, length}
 use Rattle.iss_channels.specs.Placed.{things_of}
 use Rattle.iss_store.specs.Waiting.{AreWaitersKept}
-use Rattle.iss_store.proofs.served.Served.forget.Given as goal
+use Rattle.iss_store.proofs.waiting.Waiters.forget.Given as goal
 
 abbrev pub invariant-loop-place : goal.invariant-loop-place
 invariant-loop-place l = record {

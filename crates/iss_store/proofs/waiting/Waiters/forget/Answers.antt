@@ -1,7 +1,7 @@
 use Rattle.std.proofs.Common.{◌==◌, ◌∙◌}
 use Rattle.iss_channels.specs.Placed.{things_of}
 use Rattle.iss_store.proofs.Waiters.{less_kept, others_wait, all_wait}
-use Rattle.iss_store.proofs.served.Served.forget.Goals as goal
+use Rattle.iss_store.proofs.waiting.Waiters.forget.Goals as goal
 
 pub loop-place-preserved : goal.loop-place-preserved
 loop-place-preserved c = record {

@@ -5,7 +5,7 @@ use Rattle.iss_session.specs.Desks.{Waiter}
 use Rattle.iss_store.specs.Values.{StoreNow}
 use Rattle.iss_store.specs.Serving.{tasks_by, tasks_pending, all_gone}
 use Rattle.iss_store.proofs.Resumed.{told_resumed}
-use Rattle.iss_store.proofs.store.Store.resume_served.Goals as goal
+use Rattle.iss_store.proofs.store.Store.send_pending.Goals as goal
 
 pub returns-clause-sends : goal.returns-clause-sends
 returns-clause-sends g c =
@@ -17,5 +17,7 @@ returns-clause-sends g c =
     ∙ ap (λ (ws : List Waiter). flat_map (tasks_by s.core.instance ws) entries) c.new-nobody.ensures
     ∙ ap (flat_map (tasks_by s.core.instance [])) c.deref.ensures.value ∙ c.in_ok-entries.ensures.tasks in
     λ waiting.
+    let sent =
     told_resumed s (flat_map (tasks_by c.instance.result c.new-nobody.result) entries) s.core.state.count (all_gone c.in_ok-gone.gone.items) c.in_ok-gone.field-0-1.items waiting
-    (outer_of (g.E.Edge.told c.args.edge.now) (g.E.Edge.heard c.args.edge.now)) (outer_of (g.E.Edge.told c.send_entries.new.edge) (g.E.Edge.heard c.send_entries.new.edge)) tasks c.in_ok-gone.ensures.sends
+    (outer_of (g.E.Edge.told c.args.edge.now) (g.E.Edge.heard c.args.edge.now)) (outer_of (g.E.Edge.told c.send_entries.new.edge) (g.E.Edge.heard c.send_entries.new.edge)) tasks c.in_ok-gone.ensures.sends in
+    record { sends = sent; part = tt; short = tt }
