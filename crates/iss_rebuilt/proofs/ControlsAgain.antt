@@ -40,7 +40,7 @@ abbrev HaveOwnPuts : List ControlPut → Type 0
 HaveOwnPuts [] = Unit {0}
 HaveOwnPuts (x ∷ xs) = (list_any (λ y. bytes_eq y.control.name x.control.name) xs ≡ false) × HaveOwnPuts xs
 
-abbrev HaveOwnNames : List ControlKept → Type 0
+abbrev pub HaveOwnNames : List ControlKept → Type 0
 HaveOwnNames [] = Unit {0}
 HaveOwnNames (x ∷ xs) = (list_any (λ y. bytes_eq y.control.name x.control.name) xs ≡ false) × HaveOwnNames xs
 
@@ -89,7 +89,7 @@ none_of name (x ∷ xs) h =
     ap (λ (b : Bool). cond b (x ∷ filter (is_of name) xs) (filter (is_of name) xs)) both.0 ∙ none_of name xs both.1
 
 -- a control is the only one of its name
-abbrev IsAlone : List ControlKept → ControlKept → Type 0
+abbrev pub IsAlone : List ControlKept → ControlKept → Type 0
 IsAlone xs k = filter (is_of k.control.name) xs ≡ k ∷ []
 
 still_alone : (x : ControlKept) (all xs : List ControlKept) → list_any (is_of x.control.name) xs ≡ false → Each (IsAlone all) xs → Each (IsAlone (x ∷ all)) xs
@@ -100,7 +100,7 @@ still_alone x all (y ∷ ys) none h =
       still_alone x all ys both.1 h.1,
     )
 
-all_alone : (xs : List ControlKept) → HaveOwnNames xs → Each (IsAlone xs) xs
+pub all_alone : (xs : List ControlKept) → HaveOwnNames xs → Each (IsAlone xs) xs
 all_alone [] own = tt
 all_alone (x ∷ xs) own = (
   ap (λ (b : Bool). cond b (x ∷ filter (is_of x.control.name) xs) (filter (is_of x.control.name) xs)) (its_name x.control.name) ∙ ap (λ (ys : List ControlKept). x ∷ ys) (none_of x.control.name xs own.0),
@@ -132,7 +132,7 @@ module _ (txns : List TxnNow) where
       by true e rest = ap₂ (λ (a b : List Counter). a ++ b) (kept_own name x true e (finite.entries x.amounts)) rest
       by false e rest = ap₂ (λ (a b : List Counter). a ++ b) (kept_own name x false e (finite.entries x.amounts)) rest
 
-  own_counters : (xs : List ControlKept) (k : ControlKept) → IsAlone xs k → filter (λ q. bytes_eq q.control k.control.name) (flat_map (counters_of txns) xs) ≡ counters_of txns k
+  pub own_counters : (xs : List ControlKept) (k : ControlKept) → IsAlone xs k → filter (λ q. bytes_eq q.control k.control.name) (flat_map (counters_of txns) xs) ≡ counters_of txns k
   own_counters xs k alone = of_name k.control.name xs ∙ ap (λ (ks : List ControlKept). flat_map (counters_of txns) ks) alone ∙ append-nil (counters_of txns k)
 
 -- what a control has counted ----

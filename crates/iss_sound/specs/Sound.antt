@@ -3,34 +3,33 @@ use Rattle.std.specs.Prelude.{List}
 use Rattle.iss_model.specs.declared.input.Record.{Record}
 use Rattle.iss_model.specs.declared.state.State.{State}
 use Rattle.iss_model.specs.rules.Histories.{history_of}
-use Rattle.iss_model.specs.state.Cores.{no_core}
-use Rattle.iss_state.specs.Few.{HasFewNumbers}
-use Rattle.iss_states.specs.Order.{AreInOrder}
 use Rattle.iss_states.specs.OverBook.{state_of}
-use Rattle.iss_states.specs.Rebuilding.{rebuilt}
-use Rattle.iss_sound.specs.Again.{AreOfTheirEvents}
-use Rattle.iss_sound.specs.Events.{AreJudged, AreMarkedWell, ArePendingIfAsked}
-use Rattle.iss_sound.specs.Notices.{AreToldWell}
-use Rattle.iss_sound.specs.Txns.{AreFair, AreSumsDone, HoldWell}
+use Rattle.iss_well_formed.specs.WellFormed.{IsWellFormed}
+use Rattle.iss_decided.specs.Approved.{AreApproved, OwnAreUnpaid}
+use Rattle.iss_decided.specs.Verdicts.{HaveSoundVerdicts}
+use Rattle.iss_named.specs.Kept.{AreNamesKnown}
+use Rattle.iss_noticed.specs.Addressed.{AreAddressed}
+use Rattle.iss_noticed.specs.Commitments.{AmountsFit}
+use Rattle.iss_noticed.specs.GivenBack.{GiveBackWithin}
+use Rattle.iss_reasoned.specs.Origins.{ArePurchases, ComeInTurn}
+use Rattle.iss_reasoned.specs.Reasons.{HaveReasons}
 
--- notices made, with two for each asked call and one for each live transaction, are at most four for each record, and calls one
-abbrev pub HasFewNotices : State → Type 0
-HasFewNotices s = HasFewNumbers s.records (rebuilt s)
-
--- A state is sound. Its events are in order, each setting and load is decided by what those before it have set, and an event is pending
--- exactly if its call is asked. Calls and transactions are those of the events, and no call failed by the switch. Transactions hold well,
--- and their sums are fair, and what was done. Notices are told well, and there are no more than records can have made.
+-- A state is sound. It is well-formed, and each verdict and each mark may stand where it does. Transactions hold and are paid no more than
+-- was approved, and the programme pays nothing for account products. A decline has a reason that its event may have. Transactions are
+-- purchases of known cards, and increments come in turn. Balances, counters and sums of stand-ins name what is known, in their orders.
+-- Notices are addressed, and tell no more than records can have held, of which they give back at most what they tell.
 pub record IsSoundState (s : State) : Type 0 where
-  pub order : AreInOrder s
-  pub judged : AreJudged no_core s.events
-  pub pending : ArePendingIfAsked s
-  pub own : AreOfTheirEvents s
-  pub marked : AreMarkedWell s
-  pub holds : HoldWell s
-  pub done : AreSumsDone s
-  pub fair : AreFair s
-  pub told : AreToldWell s
-  pub few : HasFewNotices s
+  pub formed : IsWellFormed s
+  pub verdicts : HaveSoundVerdicts s
+  pub approved : AreApproved s
+  pub unpaid : OwnAreUnpaid s
+  pub reasons : HaveReasons s
+  pub purchases : ArePurchases s
+  pub turns : ComeInTurn s
+  pub names : AreNamesKnown s
+  pub addressed : AreAddressed s
+  pub amounts : AmountsFit s
+  pub given : GiveBackWithin s
 
 -- the state of records, told over their whole book, is sound
 abbrev pub HaveSoundState : List Record → Type 0

@@ -1,0 +1,16 @@
+pub mod PartSteps
+pub mod Fits
+pub mod FitRows
+pub mod FitSteps
+pub mod ShownFits
+pub mod CallsAgain
+pub mod PartMarks
+pub mod SoundVerdicts
+pub mod Later
+pub mod UnpaidActs
+pub mod UnpaidSteps
+pub mod AskedEvents
+pub mod ApprovedSums
+pub mod ApprovedActs
+pub mod ApprovedSteps
+pub mod AfterSteps

@@ -1,0 +1,12 @@
+pub mod SetNames
+pub mod MadeNames
+pub mod ListedEntries
+pub mod ListedSteps
+pub mod KeptKeys
+pub mod StoodKeys
+pub mod AccountKeys
+pub mod CounterKeys
+pub mod LegalStates
+pub mod KeptSteps
+pub mod ListsAgain
+pub mod TxnsAgain

@@ -1,0 +1,9 @@
+pub mod KeptNotices
+pub mod AddressedActs
+pub mod AddressedSteps
+pub mod News
+pub mod GivenBack
+pub mod Weights
+pub mod Commitments
+pub mod AmountActs
+pub mod AmountSteps

@@ -1,0 +1,10 @@
+pub mod Stepped
+pub mod KnownNames
+pub mod ReasonedActs
+pub mod OwnReasons
+pub mod ReasonSteps
+pub mod BegunActs
+pub mod BegunSteps
+pub mod TakenActs
+pub mod TakenEntries
+pub mod TakenSteps

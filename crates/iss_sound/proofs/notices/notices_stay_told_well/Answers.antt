@@ -1,6 +1,0 @@
--- Notices stay told well.
-use Rattle.iss_sound.proofs.NoticeSteps.{told_after}
-use Rattle.iss_sound.proofs.notices.notices_stay_told_well.Goals as goal
-
-pub returns : goal.returns
-returns c = told_after

@@ -1,0 +1,5 @@
+pub mod Events
+pub mod Txns
+pub mod Again
+pub mod Notices
+pub mod WellFormed
