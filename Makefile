@@ -54,7 +54,7 @@ bench: issuer ## lines per second, and memory; replies and served calls per seco
 
 # The book and the table are made anew each time.
 .PHONY: book clauses
-book: ## all definitions that a clause of the top call cites, as a page in build/book: make book CLAUSE=serving
+book: ## all definitions that a clause of the top call cites, as a page in build/book: make book CLAUSE=serve
 	@python3 .ci/book.py $(CLAUSE)
 
 clauses: ## a line for each public call and what it promises, from the sources, in build/clauses.md
