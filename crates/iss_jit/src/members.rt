@@ -41,21 +41,21 @@ pub(crate) fn put_currency(out: &mut Vec<u8>, currency: Currency) -> Result<(), 
     ensures { OnOk result (out.new.items ≡ out.old.items
         ++ (44 ∷ member_text (with_text (codes "currency") (currency_code currency)))) }
 {
-    put_text(out, "currency", &code(currency))
+    put_opened(out, b",\"currency\":\"", &code(currency))
 }
 
 pub(crate) fn put_mcc(out: &mut Vec<u8>, mcc: u16) -> Result<(), AllocError>
     ensures { OnOk result (out.new.items
         ≡ out.old.items ++ (44 ∷ member_text (with_text (codes "mcc") (last_digits 4 mcc)))) }
 {
-    put_text(out, "mcc", &four_digits(mcc))
+    put_opened(out, b",\"mcc\":\"", &four_digits(mcc))
 }
 
 pub(crate) fn put_method(out: &mut Vec<u8>, method: Method) -> Result<(), AllocError>
     ensures { OnOk result (out.new.items ≡ out.old.items
         ++ (44 ∷ member_text (with_text (codes "method") (method_text method)))) }
 {
-    put_text(out, "method", method_text(method).as_bytes())
+    put_opened(out, b",\"method\":\"", method_text(method).as_bytes())
 }
 
 pub(crate) fn put_number(out: &mut Vec<u8>, name: &str, number: u32) -> Result<(), AllocError>
@@ -86,7 +86,7 @@ pub(crate) fn put_call(out: &mut Vec<u8>, call: CallId, instance: u64) -> Result
 {
     let mut buffer = Uuid::encode_buffer();
     let text = call.uuid(instance).hyphenated().encode_lower(&mut buffer);
-    put_text(out, "token", text.as_bytes())
+    put_opened(out, b",\"token\":\"", text.as_bytes())
 }
 
 /// Adds the token of the call that a notice ends, if it ends one.
@@ -103,6 +103,16 @@ pub(crate) fn put_ended(
         Some(call) => put_call(out, call, instance),
         None => Ok(()),
     }
+}
+
+/// Adds a text after what opens its member, and the quote that closes it.
+fn put_opened(out: &mut Vec<u8>, opening: &[u8], text: &[u8]) -> Result<(), AllocError>
+    ensures { OnOk result (out.new.items ≡ out.old.items ++ (opening.now ++ (text.now ++ 34 ∷ []))) }
+{
+    out.extend_from_slice(opening)?;
+    out.extend_from_slice(text)?;
+    out.push(b'"')?;
+    Ok(())
 }
 
 fn put_text(out: &mut Vec<u8>, name: &str, text: &[u8]) -> Result<(), AllocError>

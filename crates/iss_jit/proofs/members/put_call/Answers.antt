@@ -11,6 +11,6 @@ returns c =
     let text : c.as_bytes.result.now ≡ token_text c.args.instance c.args.call.0 =
     c.as_bytes.ensures.value ∙ c.encode_lower-text.ensures.text ∙ ap (hyphenated_text lower) (c.hyphenated.ensures ∙ c.uuid.ensures)
     ∙ token c.args.instance c.args.call.0 in
-    on_ok_weaker c.put_text.result
+    on_ok_weaker c.put_opened.result
     (λ e. e ∙ ap (λ (t : List ℕ). c.args.out.now.items ++ (44 ∷ member_text (with_text (codes "token") t))) text)
-    c.put_text.ensures
+    c.put_opened.ensures
