@@ -42,7 +42,7 @@ module _ (p : List ℕ → Bool) where
       by false true rest its = all
       by false false rest its = both_so (p k) (list_all p (keys_with ks key)) its rest
 
-  changes_pass : (ks : List (List ℕ)) (cs : List Change) → list_all (λ c. p c.key) cs ≡ true → list_all p ks ≡ true → list_all p (fold (λ ks c. keys_with ks c.key) ks cs) ≡ true
+  pub changes_pass : (ks : List (List ℕ)) (cs : List Change) → list_all (λ c. p c.key) cs ≡ true → list_all p ks ≡ true → list_all p (fold (λ ks c. keys_with ks c.key) ks cs) ≡ true
   changes_pass ks [] h all = all
   changes_pass ks (c ∷ cs) h all =
       let both = and_parts (p c.key) (list_all (λ (c : Change). p c.key) cs) h in

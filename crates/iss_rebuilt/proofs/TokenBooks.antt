@@ -70,7 +70,7 @@ rows_later : (xs ys : List TxnNow) → ((e : Entry) → is_named_entry xs e ≡ 
     → list_all (λ row. is_named_entry ys row.entry) rows ≡ true
 rows_later xs ys later rows h = all_weaker (λ (row : Row). is_named_entry xs row.entry) (λ (row : Row). is_named_entry ys row.entry) (λ row k. later row.entry k) rows h
 
-record_named : (r : Record) → is_record r ≡ true → is_named_input r.input ≡ true
+pub record_named : (r : Record) → is_record r ≡ true → is_named_input r.input ≡ true
 record_named r h =
     tokens_named r.input
     (and_parts (is_in_form r.input) (list_all is_token (tokens_of r.input)) (and_parts (is_stamp r.at) (has_spelling r.input) h).1).1

@@ -10,6 +10,9 @@ use Rattle.iss_states.specs.Showing.{no_state}
 use Rattle.iss_states.proofs.StateOfBook.{state_shown}
 use Rattle.iss_rebuilt.specs.Sums.{AreRecords}
 use Rattle.iss_well_formed.proofs.FormedSteps.{formed_after, nothing_formed}
+use Rattle.iss_balanced.proofs.OwedStates.{nothing_owed, owed_after}
+use Rattle.iss_bounded.proofs.SoundBounds.{nothing_within, within_after as bounded_after}
+use Rattle.iss_bounded.proofs.SoundNumbers.{many_after, nothing_many}
 use Rattle.iss_decided.proofs.AfterSteps.{approved_after, unpaid_after}
 use Rattle.iss_decided.proofs.SoundVerdicts.{decided_after, nothing_decided}
 use Rattle.iss_named.proofs.KeptSteps.{known_after, nothing_known}
@@ -33,6 +36,9 @@ nothing_sound =
       purchases = refl;
       turns = refl;
       names = nothing_known;
+      owed = nothing_owed;
+      bounded = nothing_within;
+      few = nothing_many;
       addressed = record { txns = refl; calls = refl };
       amounts = none_within;
       given = refl;
@@ -49,6 +55,9 @@ sound_after s r h now =
       purchases = bought_after s r h.formed h.purchases now;
       turns = taken_after s r h.formed h.turns now;
       names = known_after s r h.formed h.names now;
+      owed = owed_after s r h.formed h.owed now;
+      bounded = bounded_after s r h.formed h.bounded now;
+      few = many_after s r h.formed h.few now;
       addressed = addressed_after s r h.formed h.addressed now;
       amounts = amounts_after s r h.formed h.amounts now;
       given = within_after s r h.given;

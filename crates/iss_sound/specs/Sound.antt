@@ -5,6 +5,9 @@ use Rattle.iss_model.specs.declared.state.State.{State}
 use Rattle.iss_model.specs.rules.Histories.{history_of}
 use Rattle.iss_states.specs.OverBook.{state_of}
 use Rattle.iss_well_formed.specs.WellFormed.{IsWellFormed}
+use Rattle.iss_balanced.specs.Owed.{AreOwed}
+use Rattle.iss_bounded.specs.Bounds.{AreBounded}
+use Rattle.iss_bounded.specs.Many.{AreFewEnough}
 use Rattle.iss_decided.specs.Approved.{AreApproved, OwnAreUnpaid}
 use Rattle.iss_decided.specs.Verdicts.{HaveSoundVerdicts}
 use Rattle.iss_named.specs.Kept.{AreNamesKnown}
@@ -16,8 +19,10 @@ use Rattle.iss_reasoned.specs.Reasons.{HaveReasons}
 
 -- A state is sound. It is well-formed, and each verdict and each mark may stand where it does. Transactions hold and are paid no more than
 -- was approved, and the programme pays nothing for account products. A decline has a reason that its event may have. Transactions are
--- purchases of known cards, and increments come in turn. Balances, counters and sums of stand-ins name what is known, in their orders.
--- Notices are addressed, and tell no more than records can have held, of which they give back at most what they tell.
+-- purchases of known cards, and increments come in turn. Balances, counters and sums of stand-ins name what is known, in their orders. Each
+-- account has the balance that it is owed. Counters and sums of stand-ins reach no further than the records can have moved them, and are no
+-- more than the records can have made. Notices are addressed, and tell no more than records can have held, of which they give back at most
+-- what they tell.
 pub record IsSoundState (s : State) : Type 0 where
   pub formed : IsWellFormed s
   pub verdicts : HaveSoundVerdicts s
@@ -27,6 +32,9 @@ pub record IsSoundState (s : State) : Type 0 where
   pub purchases : ArePurchases s
   pub turns : ComeInTurn s
   pub names : AreNamesKnown s
+  pub owed : AreOwed s
+  pub bounded : AreBounded s
+  pub few : AreFewEnough s
   pub addressed : AreAddressed s
   pub amounts : AmountsFit s
   pub given : GiveBackWithin s

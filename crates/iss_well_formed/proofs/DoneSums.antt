@@ -76,7 +76,7 @@ done_of ds worth [] = 0
 done_of ds worth (a ∷ xs) = worth_if (verdict_in ds (token_of_event a)) (worth a.input) + done_of ds worth xs
 
 -- an event isn't among these
-abbrev IsNone : List ℕ → List Accepted → Type 0
+abbrev pub IsNone : List ℕ → List Accepted → Type 0
 IsNone event xs = Each (λ a. bytes_eq event (token_of_event a) ≡ false) xs
 
 done_more : (ds : List Decision) (x : Decision) (worth : Input → ℕ) (xs : List Accepted) → ((a : Accepted) → is_done (verdict_in (ds ++ x ∷ []) (token_of_event a)) ≡ is_done (verdict_in ds (token_of_event a)))
@@ -106,7 +106,7 @@ other_more ds x worth (a ∷ xs) none =
     nothing_or (Some v) = refl
 
 -- an event that isn't accepted is none of these
-none_of : (all xs : List Accepted) (event : List ℕ) → is_accepted all event ≡ false → Each (IsOwn all) xs → IsNone event xs
+pub none_of : (all xs : List Accepted) (event : List ℕ) → is_accepted all event ≡ false → Each (IsOwn all) xs → IsNone event xs
 none_of all [] event new own = tt
 none_of all (a ∷ xs) event new own = (by (bytes_eq event (token_of_event a)) refl, none_of all xs event new own.1)
   where
@@ -126,7 +126,7 @@ entry_done by c (entry.Decided event (verdict.Partial currency amount)) worth xs
 entry_done by c (entry.Decided event (verdict.Declined why)) worth xs new h = undone_more c.decisions event (verdict.Declined why) worth xs refl
 entry_done by c _ worth xs new h = refl
 
-entries_done : (by : Cause) (c : CoreState) (es : List Entry) (worth : Input → ℕ) (xs : List Accepted) → NotAmong by xs → list_all (decides_own by) es ≡ true → done_of (fold after_entry c es).decisions worth xs ≡ done_of c.decisions worth xs
+pub entries_done : (by : Cause) (c : CoreState) (es : List Entry) (worth : Input → ℕ) (xs : List Accepted) → NotAmong by xs → list_all (decides_own by) es ≡ true → done_of (fold after_entry c es).decisions worth xs ≡ done_of c.decisions worth xs
 entries_done by c [] worth xs new h = refl
 entries_done by c (e ∷ es) worth xs new h =
     let both = and_parts (decides_own by e) (list_all (decides_own by) es) h in entries_done by (after_entry c e) es worth xs new both.1 ∙ entry_done by c e worth xs new both.0

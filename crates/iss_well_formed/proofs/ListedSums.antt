@@ -30,7 +30,7 @@ use Rattle.iss_well_formed.proofs.DonePosts.{due_clears, due_refunds, own_clears
 use Rattle.iss_well_formed.proofs.SumSteps.{cleared_in, refunded_in}
 
 -- what isn't listed after entries wasn't before
-unlisted_before : (s : CoreState) (es : List Entry) (key : List ℕ) → txn_named key (fold after_entry s es).holdings.txns ≡ None → txn_named key s.holdings.txns ≡ None
+pub unlisted_before : (s : CoreState) (es : List Entry) (key : List ℕ) → txn_named key (fold after_entry s es).holdings.txns ≡ None → txn_named key s.holdings.txns ≡ None
 unlisted_before s [] key h = h
 unlisted_before s (e ∷ es) key h = by (txn_named key s.holdings.txns) refl (unlisted_before (after_entry s e) es key h)
   where

@@ -1,0 +1,10 @@
+pub mod Shares
+pub mod SharePieces
+pub mod ShareActs
+pub mod Loads
+pub mod OwedSteps
+pub mod ReadKeys
+pub mod ListedInOrder
+pub mod ReadSteps
+pub mod OwedAgain
+pub mod OwedStates
