@@ -2,16 +2,13 @@
 ghost use Rattle.std.specs.Prelude.{◌≡◌, ◌+ℤ◌, pos, List};
 ghost use Rattle.iss_model.specs.declared.account.Account.TheVariants as account;
 ghost use Rattle.iss_model.specs.declared.input.Record.{Record};
-ghost use Rattle.iss_model.specs.declared.state.State.{State};
 ghost use Rattle.iss_model.specs.declared.state.TxnSums.{TxnSums};
 ghost use Rattle.iss_model.specs.declared.txn.Txn.{Txn};
 ghost use Rattle.iss_model.specs.rules.Histories.{IsLegal, history_of};
-ghost use Rattle.iss_states.specs.Order.{IsNewOnState};
 ghost use Rattle.iss_states.specs.OverBook.{state_of};
-ghost use Rattle.iss_states.specs.Rebuilding.{state_after};
 ghost use Rattle.iss_states.specs.Showing.{no_state};
 ghost use Rattle.iss_rebuilt.specs.Sums.{AreRecords};
-ghost use Rattle.iss_well_formed.specs.WellFormed.{IsWellFormed};
+ghost use Rattle.iss_well_formed.specs.Keeping.{IsKeptBySteps};
 ghost use Rattle.iss_balanced.specs.Owed.{AreOwed, GivesNothing};
 
 /// Each account of the empty state has the balance that it is owed. A record that is new on a well-formed state keeps it so, whether or not
@@ -19,7 +16,7 @@ ghost use Rattle.iss_balanced.specs.Owed.{AreOwed, GivesNothing};
 #[tactic(auto, using(crate::proofs::OwedStates::nothing_owed))]
 pub fn balances_stay_owed()
     ensures begins { AreOwed no_state }
-    ensures steps { (s : State) → (r : Record) → IsWellFormed s → AreOwed s → IsNewOnState s r → AreOwed (state_after s r) }
+    ensures steps { IsKeptBySteps AreOwed }
     ensures records { (rs : List Record) → IsLegal rs → AreRecords rs → AreOwed (state_of (history_of rs)) }
 {}
 

@@ -47,7 +47,7 @@ number_of_list (e ∷ es) = one (number_with (finite.from_entries {R = slice_cmp
     one : {a b c : ℕ} → a ≤ b + 1 → b ≤ c → a ≤ suc c
     one h k = omega (arith, h, k)
 
--- there are at most so many sums
+-- sums are at most this number
 pub record AreAtMost (k : Kept) (m : ℤ) : Type 0 where
   pub number : pos (kept_number k) ≤ℤ m
 

@@ -1,14 +1,11 @@
 //! The bounds of a state's sums, and their numbers.
 ghost use Rattle.std.specs.Prelude.{List};
 ghost use Rattle.iss_model.specs.declared.input.Record.{Record};
-ghost use Rattle.iss_model.specs.declared.state.State.{State};
 ghost use Rattle.iss_model.specs.rules.Histories.{IsLegal, history_of};
-ghost use Rattle.iss_states.specs.Order.{IsNewOnState};
 ghost use Rattle.iss_states.specs.OverBook.{state_of};
-ghost use Rattle.iss_states.specs.Rebuilding.{state_after};
 ghost use Rattle.iss_states.specs.Showing.{no_state};
 ghost use Rattle.iss_rebuilt.specs.Sums.{AreRecords};
-ghost use Rattle.iss_well_formed.specs.WellFormed.{IsWellFormed};
+ghost use Rattle.iss_well_formed.specs.Keeping.{IsKeptBySteps};
 ghost use Rattle.iss_bounded.specs.Bounds.{AreBounded};
 ghost use Rattle.iss_bounded.specs.Many.{AreFewEnough};
 
@@ -17,7 +14,7 @@ ghost use Rattle.iss_bounded.specs.Many.{AreFewEnough};
 #[tactic(auto, using(crate::proofs::SoundBounds::nothing_within))]
 pub fn bounds_stay()
     ensures begins { AreBounded no_state }
-    ensures steps { (s : State) → (r : Record) → IsWellFormed s → AreBounded s → IsNewOnState s r → AreBounded (state_after s r) }
+    ensures steps { IsKeptBySteps AreBounded }
     ensures records { (rs : List Record) → IsLegal rs → AreRecords rs → AreBounded (state_of (history_of rs)) }
 {}
 
@@ -26,6 +23,6 @@ pub fn bounds_stay()
 #[tactic(auto, using(crate::proofs::SoundNumbers::nothing_many))]
 pub fn numbers_stay()
     ensures begins { AreFewEnough no_state }
-    ensures steps { (s : State) → (r : Record) → IsWellFormed s → AreFewEnough s → IsNewOnState s r → AreFewEnough (state_after s r) }
+    ensures steps { IsKeptBySteps AreFewEnough }
     ensures records { (rs : List Record) → IsLegal rs → AreFewEnough (state_of (history_of rs)) }
 {}

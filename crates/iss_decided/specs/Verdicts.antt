@@ -9,15 +9,13 @@ use Rattle.iss_model.specs.declared.decision.Verdict.{Verdict}
 use Rattle.iss_model.specs.declared.decision.Verdict.TheVariants as verdict
 use Rattle.iss_model.specs.declared.input.Input.{Input}
 use Rattle.iss_model.specs.declared.input.Input.TheVariants as input
-use Rattle.iss_model.specs.declared.input.Record.{Record}
 use Rattle.iss_model.specs.declared.state.Seen.{Seen}
 use Rattle.iss_model.specs.declared.state.State.{State}
 use Rattle.iss_model.specs.Currencies.{same_currency}
 use Rattle.iss_model.specs.rules.Activity.{TxnNow, txn_named}
 use Rattle.iss_model.specs.rules.CardReasons.{is_account_funded}
 use Rattle.iss_model.specs.rules.Reasons.{is_some_with}
-use Rattle.iss_states.specs.Order.{IsNewOnState}
-use Rattle.iss_states.specs.Rebuilding.{rebuilt, state_after}
+use Rattle.iss_states.specs.Rebuilding.{rebuilt}
 use Rattle.iss_well_formed.specs.Events.{is_ask}
 
 -- an event of this kind may have this verdict: only authorisations and increments are approved, and only other events are done
@@ -95,7 +93,3 @@ pub record HaveSoundVerdicts (s : State) : Type 0 where
   pub listed : list_all (takes_effect_in_its_txn (rebuilt s).holdings.txns) s.events ≡ true
   pub marked : list_all (is_marked_in_its_txn (rebuilt s).holdings.txns) s.events ≡ true
   pub parts : list_all do_parts_agree s.events ≡ true
-
--- a record that is new on this state leaves sound verdicts
-abbrev pub LeavesSoundVerdicts : State → Record → Type 0
-LeavesSoundVerdicts s r = IsNewOnState s r → HaveSoundVerdicts (state_after s r)

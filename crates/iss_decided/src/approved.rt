@@ -1,20 +1,17 @@
 //! What the sums of a state's transactions owe to what was approved for them, and to who pays them.
 ghost use Rattle.std.specs.Prelude.{List};
 ghost use Rattle.iss_model.specs.declared.input.Record.{Record};
-ghost use Rattle.iss_model.specs.declared.state.State.{State};
 ghost use Rattle.iss_model.specs.rules.Histories.{IsLegal, history_of};
-ghost use Rattle.iss_states.specs.Order.{IsNewOnState};
 ghost use Rattle.iss_states.specs.OverBook.{state_of};
-ghost use Rattle.iss_states.specs.Rebuilding.{state_after};
 ghost use Rattle.iss_states.specs.Showing.{no_state};
-ghost use Rattle.iss_well_formed.specs.WellFormed.{IsWellFormed};
+ghost use Rattle.iss_well_formed.specs.Keeping.{IsKeptBySteps};
 ghost use Rattle.iss_decided.specs.Approved.{OwnAreUnpaid, AreApproved};
 
 /// The programme pays nothing for a transaction that its user's own balance pays. So it is in the empty state, after each new record on
 /// any well-formed state, and after all legal records.
 pub fn own_purchases_stay_unpaid()
     ensures begins { OwnAreUnpaid no_state }
-    ensures steps { (s : State) → (r : Record) → IsWellFormed s → OwnAreUnpaid s → IsNewOnState s r → OwnAreUnpaid (state_after s r) }
+    ensures steps { IsKeptBySteps OwnAreUnpaid }
     ensures records { (rs : List Record) → IsLegal rs → OwnAreUnpaid (state_of (history_of rs)) }
 {}
 
@@ -22,6 +19,6 @@ pub fn own_purchases_stay_unpaid()
 /// has paid for it is at most that and what was cleared.
 pub fn sums_stay_within_approved()
     ensures begins { AreApproved no_state }
-    ensures steps { (s : State) → (r : Record) → IsWellFormed s → AreApproved s → IsNewOnState s r → AreApproved (state_after s r) }
+    ensures steps { IsKeptBySteps AreApproved }
     ensures records { (rs : List Record) → IsLegal rs → AreApproved (state_of (history_of rs)) }
 {}

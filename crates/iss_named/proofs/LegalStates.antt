@@ -13,18 +13,12 @@ use Rattle.iss_model.specs.rules.Stepping.{step}
 use Rattle.iss_model.specs.state.Cores.{core_of}
 use Rattle.iss_model.specs.texts.Spelling.{is_record}
 use Rattle.iss_state.proofs.docket.Lists.{both_so}
-use Rattle.iss_states.specs.Order.{IsNewOnState}
-use Rattle.iss_states.specs.Rebuilding.{state_after}
 use Rattle.iss_states.specs.Showing.{no_state, shown}
 use Rattle.iss_states.proofs.Nothing.{nothing_shown}
 use Rattle.iss_rebuilt.specs.Sums.{AreRecords}
-use Rattle.iss_well_formed.specs.WellFormed.{IsWellFormed}
+use Rattle.iss_well_formed.specs.Keeping.{IsKeptBySteps}
 use Rattle.iss_well_formed.proofs.LegalOrder.{after_more, follows_new, legal_more}
 use Rattle.iss_well_formed.proofs.FormedSteps.{legal_formed}
-
--- what each step on a well-formed state keeps
-abbrev pub IsKeptBySteps : (State → Type 0) → Type 0
-IsKeptBySteps P = (s : State) (r : Record) → IsWellFormed s → P s → IsNewOnState s r → P (state_after s r)
 
 module _ (P : State → Type 0) (keeps : IsKeptBySteps P) where
   states_from : (before rs : List Record) → IsLegal before → AreRecords before → IsLegalAfter (history_of before) rs → AreRecords rs → length before + length rs ≤ MOST_RECORDS → P (shown (core_of before)) → P (shown (core_of (before ++ rs)))

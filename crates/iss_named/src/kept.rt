@@ -4,10 +4,9 @@ ghost use Rattle.iss_model.specs.declared.input.Record.{Record};
 ghost use Rattle.iss_model.specs.declared.limits.TheConstants.{MOST_RECORDS};
 ghost use Rattle.iss_model.specs.declared.state.State.{State};
 ghost use Rattle.iss_model.specs.rules.Histories.{IsLegal};
-ghost use Rattle.iss_states.specs.Order.{IsNewOnState};
-ghost use Rattle.iss_states.specs.Rebuilding.{state_after};
 ghost use Rattle.iss_states.specs.Showing.{no_state};
 ghost use Rattle.iss_rebuilt.specs.Sums.{AreRecords};
+ghost use Rattle.iss_well_formed.specs.Keeping.{IsKeptBySteps};
 ghost use Rattle.iss_well_formed.specs.WellFormed.{IsWellFormed};
 ghost use Rattle.iss_named.specs.Again.{IsShownAgain};
 ghost use Rattle.iss_named.specs.Kept.{AreNamesKnown, HaveNamesKnown};
@@ -18,7 +17,7 @@ ghost use Rattle.iss_named.specs.Kept.{AreNamesKnown, HaveNamesKnown};
 #[tactic(auto, using(crate::proofs::KeptSteps::nothing_known))]
 pub fn names_stay_known()
     ensures begins { AreNamesKnown no_state }
-    ensures steps { (s : State) → (r : Record) → IsWellFormed s → AreNamesKnown s → IsNewOnState s r → AreNamesKnown (state_after s r) }
+    ensures steps { IsKeptBySteps AreNamesKnown }
     ensures records { (rs : List Record) → IsLegal rs → AreRecords rs → length rs ≤ MOST_RECORDS → HaveNamesKnown rs }
 {}
 

@@ -51,7 +51,7 @@ use Rattle.iss_rebuilt.proofs.MadeSteps.{legal_txns_rebuilt}
 
 -- all records in form ----
 
--- a core of so many records is sound, and its sums are those of its transactions
+-- a core with this number of records is sound, and its sums are those of its transactions
 record IsSoundAndSummed (n : ℕ) (s : CoreState) : Type 0 where
   sound : IsSoundAt n s
   summed : IsSummed s

@@ -3,3 +3,4 @@ pub mod Txns
 pub mod Again
 pub mod Notices
 pub mod WellFormed
+pub mod Keeping
