@@ -1,9 +1,7 @@
 -- What entries of rows cost in counters of a control, asked calls and live transactions.
-use Rattle.std.proofs.Common.{◌≡◌, ◌++◌, ◌+◌, ◌+ℤ◌, ◌-◌, ◌∷◌, ◌≤◌, ℕ, ℤ, pos, neg_ℤ, arith, Bool, cond, false, List, [], nat_eq, refl, true}
+use Rattle.std.proofs.Common.{◌≡◌, ◌++◌, ◌+◌, ◌+ℤ◌, ◌-◌, ◌∷◌, ℕ, ℤ, pos, neg_ℤ, arith, Bool, cond, false, List, [], nat_eq, refl, true}
 use Rattle.std.specs.Prelude.{None, ◌≤ℤ◌}
-use Rattle.std.specs.List.{sum_by}
 use Rattle.std.proofs.lemmas.Int.{ints}
-use Rattle.std.proofs.lemmas.List.Sums.{sum_by-cons}
 use Rattle.iss_model.specs.declared.account.Account.{Account}
 use Rattle.iss_model.specs.declared.account.Account.TheVariants as account
 use Rattle.iss_model.specs.declared.account.Part.{Part}
@@ -17,11 +15,11 @@ use Rattle.iss_model.specs.declared.entry.Entry.TheVariants as entry
 use Rattle.iss_model.specs.declared.txn.Txn.{Txn}
 use Rattle.iss_model.specs.declared.txn.UsageRow.{UsageRow}
 use Rattle.iss_model.specs.rules.Activity.{CallNow}
-use Rattle.iss_model.specs.rules.Acts.{Abandons, Act, Asks, Begins, Clears, Ends, Fails, Funds, FundsPart, GivesBack, HoldsOwn, LetsGo, Refuses, StandsIn, TurnsDown, Uses, act_entries, entries_of_acts}
+use Rattle.iss_model.specs.rules.Acts.{Abandons, Act, Asks, Begins, Clears, Ends, Fails, Funds, FundsPart, GivesBack, HoldsOwn, LetsGo, Loads, Refuses, StandsIn, TurnsDown, Uses, act_entries, entries_of_acts}
 use Rattle.iss_model.specs.rules.Asks.{Ask, ask_given_back, call_ask, usage_of}
 use Rattle.iss_model.specs.rules.Pieces.{Parts, abandoned_calls_entries, clearing_money_entries, declined_ask_entries, give_back_entries, hold_entries, in_all, notice_entry, only_gateway, only_where, post_entries, release_entries, taken_to_clear, taken_to_release, unhold_entries, user_account}
 use Rattle.iss_acts.proofs.Passing.{EachPasses, both_pass, gateway_passes, one_passes, two_pass, where_passes}
-use Rattle.iss_bounded.proofs.CounterRows.{RowCosts, adds, lets_off}
+use Rattle.iss_bounded.proofs.CounterRows.{RowCosts, adds, lets_off, row_costs, total_cost}
 use Rattle.iss_bounded.proofs.Prices.{no_price, price_append, total_price}
 
 -- what an entry adds at most
@@ -109,7 +107,7 @@ nothing z e = omega (arith, ints, e)
 one : (z : ℤ) → z ≤ℤ pos 1 → (z +ℤ pos 0) ≤ℤ pos 1
 one z h = omega (arith, ints, h)
 
-closed_light : (z : ℤ) → z ≡ pos 0 → ((neg_ℤ (pos 1) +ℤ z) +ℤ pos 1) ≤ℤ pos 0
+closed_light : (z : ℤ) → z ≡ pos 0 → ((neg_ℤ (pos 1) +ℤ z) +ℤ pos 1) ≤ℤ pos 1
 closed_light z e = omega (arith, ints, e)
 
 closed_used : (z : ℤ) → z ≡ pos 0 → ((neg_ℤ (pos 1) +ℤ (pos 1 +ℤ z)) +ℤ pos 1) ≤ℤ pos 1
@@ -121,10 +119,14 @@ closed_one z h = omega (arith, ints, h)
 none : (z : ℤ) → z ≤ℤ pos 0 → (z +ℤ pos 0) ≤ℤ pos 0
 none z h = omega (arith, ints, h)
 
-stood : (z : ℤ) → z ≡ pos 0 → ((pos 0 +ℤ z) +ℤ pos 0) ≤ℤ pos 0
+stood : (z : ℤ) → z ≡ pos 0 → ((pos 0 +ℤ z) +ℤ pos 0) ≤ℤ pos 1
 stood z e = omega (arith, ints, e)
 
+some : (z : ℤ) → z ≡ pos 0 → (z +ℤ pos 0) ≤ℤ pos 1
+some z e = omega (arith, ints, e)
+
 act_within : (a : Act) → (total (act_entries a) +ℤ pos (lets_off a)) ≤ℤ pos (adds a)
+act_within (Loads event user currency amount) = omega (arith, ints)
 act_within (Begins ask) = omega (arith, ints)
 act_within (Uses ask) = omega (arith, ints)
 act_within (Asks f product ask) = omega (arith, ints)
@@ -152,25 +154,19 @@ act_within (Clears t parts amount at) =
     excess (usage_of t (pos excess) (pos 0) at)
     (both_pass (both_pass (both_pass (both_pass (freed_light t part.G taken.g) (freed_light t part.P taken.p)) (freed_light t part.S taken.s)) (gateway_passes t (posts_light t (account.Programme t.currency) (user_account t) excess))) (posts_light t (user_account t) (account.Network t.currency) amount)))
 act_within (GivesBack t amount programme) =
-    nothing (total (give_back_entries t amount programme))
+    some (total (give_back_entries t amount programme))
     (light (both_pass (posts_light t (account.Network t.currency) (user_account t) amount)
     (gateway_passes t (both_pass (posts_light t (user_account t) (account.Programme t.currency) programme) (posts_light t (user_account t) (account.Gateway t.currency) (amount - programme))))))
 act_within (Ends t) = omega (arith, ints)
 act_within a = nothing (total (act_entries a)) refl
 
--- acts in a row come to no more than is added, with what is let off
-acts_within : (acts : List Act) → (total (entries_of_acts acts) +ℤ pos (sum_by lets_off acts)) ≤ℤ pos (sum_by adds acts)
-acts_within [] = omega (arith, ints)
-acts_within (a ∷ acts) =
-    both (total (act_entries a)) (total (entries_of_acts acts)) (total (act_entries a ++ entries_of_acts acts)) (lets_off a) (sum_by lets_off acts) (sum_by lets_off (a ∷ acts)) (adds a) (sum_by adds acts) (sum_by adds (a ∷ acts))
-    (price_append number_price (act_entries a) (entries_of_acts acts)) (sum_by-cons lets_off a acts) (sum_by-cons adds a acts) (act_within a) (acts_within acts)
-  where
-    both : (x y z : ℤ) (d e f u v w : ℕ) → z ≡ x +ℤ y → f ≡ d + e → w ≡ u + v → (x +ℤ pos d) ≤ℤ pos u → (y +ℤ pos e) ≤ℤ pos v → (z +ℤ pos f) ≤ℤ pos w
-    both x y z d e f u v w i j k h l = omega (arith, ints, i, j, k, h, l)
-
 -- a row of these costs
 pub row_within : (acts : List Act) {up down : ℕ} → RowCosts acts up down → (total (entries_of_acts acts) +ℤ pos down) ≤ℤ pos up
-row_within acts {up} {down} h = within (total (entries_of_acts acts)) (sum_by lets_off acts) (sum_by adds acts) up down (acts_within acts) h.notices
+row_within acts {up} {down} h = priced (total (entries_of_acts acts)) (total_cost (λ a. total (act_entries a)) acts) up down (act_by_act acts) (row_costs (λ a. total (act_entries a)) act_within acts h)
   where
-    within : (z : ℤ) (d u up down : ℕ) → (z +ℤ pos d) ≤ℤ pos u → u + down ≤ d + up → (z +ℤ pos down) ≤ℤ pos up
-    within z d u up down h k = omega (arith, ints, h, k)
+    act_by_act : (acts : List Act) → total (entries_of_acts acts) ≡ total_cost (λ a. total (act_entries a)) acts
+    act_by_act [] = refl
+    act_by_act (a ∷ acts) = omega (arith, ints, price_append number_price (act_entries a) (entries_of_acts acts), act_by_act acts)
+
+    priced : (x y : ℤ) (up down : ℕ) → x ≡ y → (y +ℤ pos down) ≤ℤ pos up → (x +ℤ pos down) ≤ℤ pos up
+    priced x y up down e h = omega (arith, ints, e, h)

@@ -1,6 +1,9 @@
--- What rows of acts cost in counters of a control, with one for each asked call and one for each live transaction.
-use Rattle.std.proofs.Common.{ℕ, ◌+◌, ◌≤◌, min, Bool, ◌&&◌, ◌||◌, nat_eq, List, [], ◌∷◌, arith}
-use Rattle.std.specs.Prelude.{Option, Some, None}
+-- What rows of acts cost in counters of a control or in users' accounts, with one for each asked call and one for each live transaction.
+use Rattle.std.proofs.Common.{◌≡◌, ℕ, ℤ, pos, ◌+◌, ◌+ℤ◌, ◌≤◌, min, Bool, ◌&&◌, ◌||◌, nat_eq, List, [], ◌∷◌, arith}
+use Rattle.std.specs.Prelude.{◌≤ℤ◌, Option, Some, None}
+use Rattle.std.specs.List.{sum_by}
+use Rattle.std.proofs.lemmas.Int.{ints}
+use Rattle.std.proofs.lemmas.List.Sums.{sum_by-cons}
 use Rattle.iss_model.specs.declared.call.Failure.{Failure}
 use Rattle.iss_model.specs.declared.call.Failure.TheVariants as failure
 use Rattle.iss_model.specs.declared.call.Opened.{Opened}
@@ -12,7 +15,7 @@ use Rattle.iss_model.specs.declared.input.Outcome.TheVariants as outcome
 use Rattle.iss_model.specs.declared.setting.Product.{Product}
 use Rattle.iss_model.specs.declared.txn.Txn.{Txn}
 use Rattle.iss_model.specs.rules.Activity.{TxnNow, CallNow, is_asked}
-use Rattle.iss_model.specs.rules.Acts.{Acknowledges, Act, Asks, Begins, Clears, Ends, Fails, Funds, FundsPart, LetsGo, Refuses, TurnsDown, Uses}
+use Rattle.iss_model.specs.rules.Acts.{Acknowledges, Act, Asks, Begins, Clears, Ends, Fails, Funds, FundsPart, GivesBack, LetsGo, Loads, Refuses, StandsIn, TurnsDown, Uses}
 use Rattle.iss_model.specs.rules.Asks.{Ask, call_ask}
 use Rattle.iss_model.specs.rules.CardActs.{acts_for_gateway, acts_of_asked, acts_of_txn, acts_where, authorization_acts, clearing_acts, counts_as_part, end_acts, failed_acts, funding_acts, gateway_acts, outcome_acts, refund_acts, reversal_acts, stand_acts}
 use Rattle.iss_model.specs.rules.Pieces.{Parts, parts_held, in_all, left_of, taken_to_clear}
@@ -32,16 +35,20 @@ use Rattle.iss_state.proofs.calls.FewMoves.{CostsBy}
 abbrev opens_none : Act → ℕ
 opens_none a = 0
 
--- what an act may add to the counters of a control, the asked calls and the live transactions
+-- what an act may add to the counters of a control or to users' accounts, with the asked calls and the live transactions
 abbrev pub adds : Act → ℕ
+adds (Loads event user currency amount) = 1
 adds (Begins ask) = 2
 adds (Uses ask) = 1
 adds (Asks f product ask) = 1
+adds (Funds o t) = 1
 adds (FundsPart o t amount) = 1
 adds (Refuses o t) = 1
+adds (StandsIn number ask at set) = 1
 adds (TurnsDown ask why) = 1
 adds (LetsGo t parts amount) = 1
 adds (Clears t parts amount at) = 1
+adds (GivesBack t amount programme) = 1
 adds _ = 0
 
 -- what it takes from them at least
@@ -55,6 +62,28 @@ lets_off _ = 0
 
 abbrev pub RowCosts : List Act → ℕ → ℕ → Type 0
 RowCosts acts up down = CostsBy opens_none adds lets_off acts 0 up down
+
+-- what acts cost together
+abbrev pub total_cost : (Act → ℤ) → List Act → ℤ
+total_cost cost [] = pos 0
+total_cost cost (a ∷ acts) = cost a +ℤ total_cost cost acts
+
+module _ (cost : Act → ℤ) (within : (a : Act) → (cost a +ℤ pos (lets_off a)) ≤ℤ pos (adds a)) where
+  acts_within : (acts : List Act) → (total_cost cost acts +ℤ pos (sum_by lets_off acts)) ≤ℤ pos (sum_by adds acts)
+  acts_within [] = omega (arith, ints)
+  acts_within (a ∷ acts) =
+      both (cost a) (total_cost cost acts) (lets_off a) (sum_by lets_off acts) (sum_by lets_off (a ∷ acts)) (adds a) (sum_by adds acts) (sum_by adds (a ∷ acts))
+      (sum_by-cons lets_off a acts) (sum_by-cons adds a acts) (within a) (acts_within acts)
+    where
+      both : (x y : ℤ) (d e f u v w : ℕ) → f ≡ d + e → w ≡ u + v → (x +ℤ pos d) ≤ℤ pos u → (y +ℤ pos e) ≤ℤ pos v → ((x +ℤ y) +ℤ pos f) ≤ℤ pos w
+      both x y d e f u v w j k h l = omega (arith, ints, j, k, h, l)
+
+  -- a row of these costs
+  pub row_costs : (acts : List Act) {up down : ℕ} → RowCosts acts up down → (total_cost cost acts +ℤ pos down) ≤ℤ pos up
+  row_costs acts {up} {down} h = row (total_cost cost acts) (sum_by lets_off acts) (sum_by adds acts) up down (acts_within acts) h.notices
+    where
+      row : (z : ℤ) (d u up down : ℕ) → (z +ℤ pos d) ≤ℤ pos u → u + down ≤ d + up → (z +ℤ pos down) ≤ℤ pos up
+      row z d u up down h k = omega (arith, ints, h, k)
 
 -- rows of acts ----
 
@@ -128,7 +157,7 @@ clearing_costs f token amount last at now =
     (then (end_costs (next_notice f) f now.txn rest reason.Cleared) (told now.txn (more (none_costs 0))))
     (told now.txn (more (none_costs 0)))) (more (none_costs 0)))
 
-refund_costs : (f : Facts) (token : List ℕ) (amount : ℕ) (now : TxnNow) → RowCosts (refund_acts f token amount (Some now)) 0 0
+refund_costs : (f : Facts) (token : List ℕ) (amount : ℕ) (now : TxnNow) → RowCosts (refund_acts f token amount (Some now)) 1 0
 refund_costs f token amount now = more (then (told now.txn (more (none_costs 0))) (more (none_costs 0)))
 
 -- all inputs ----

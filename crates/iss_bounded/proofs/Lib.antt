@@ -14,6 +14,10 @@ pub mod StoodNumbers
 pub mod SoundBounds
 pub mod CounterRows
 pub mod CounterPrices
+pub mod NumberLoads
 pub mod CounterNumbers
 pub mod ControlNames
+pub mod UserKeys
+pub mod AccountActs
+pub mod AccountNumbers
 pub mod SoundNumbers

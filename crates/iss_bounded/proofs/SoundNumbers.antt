@@ -1,4 +1,4 @@
--- A step on a well-formed state keeps its sums and counters few, and so do legal records.
+-- A step on a well-formed state keeps its sums, counters and users' accounts few, and so do legal records.
 use Rattle.std.proofs.Common.{◌≡◌, ◌∙◌, ◌++◌, ◌+◌, ◌*◌, ◌+ℤ◌, ◌∷◌, ◌≤◌, ℕ, ℤ, pos, neg_ℤ, ap, arith, Bool, cond, false, filter, length, List, [], map, not, refl, subst, suc, sym, true}
 use Rattle.std.specs.Prelude.{◌≤ℤ◌}
 use Rattle.std.specs.List.{flat_map}
@@ -17,6 +17,7 @@ use Rattle.iss_model.specs.rules.Histories.{IsLegal}
 use Rattle.iss_model.specs.rules.Settings.{is_named_in}
 use Rattle.iss_model.specs.rules.Stepping.{step}
 use Rattle.iss_model.specs.state.Cores.{ControlKept, CoreState, core_keeper, core_of}
+use Rattle.iss_model.specs.state.Kept.{nothing_kept}
 use Rattle.iss_model.proofs.Lists.{neither}
 use Rattle.iss_model.proofs.Names.{one_name}
 use Rattle.iss_state.specs.Pending.{IsWell}
@@ -41,12 +42,15 @@ use Rattle.iss_well_formed.proofs.MadeAgain.{judged_again, made_too, set_too}
 use Rattle.iss_well_formed.proofs.FormedSteps.{record_count}
 use Rattle.iss_well_formed.proofs.WellAgain.{well_again}
 use Rattle.iss_bounded.specs.Bounds.{asked_number}
-use Rattle.iss_bounded.specs.Many.{AreFewEnough, counters_of_control, live_number}
+use Rattle.iss_bounded.specs.Many.{AreFewEnough, counters_of_control, live_number, user_accounts}
+use Rattle.iss_bounded.proofs.AccountNumbers.{AccountsWithin, accounts_step}
 use Rattle.iss_bounded.proofs.ControlNames.{HaveDistinctNames, control_names, names_again, names_step}
 use Rattle.iss_bounded.proofs.CounterBounds.{controls_again}
-use Rattle.iss_bounded.proofs.CounterNumbers.{CountersWithin, counters_step, number_load, number_read}
+use Rattle.iss_bounded.proofs.CounterNumbers.{CountersWithin, counters_step, number_read}
+use Rattle.iss_bounded.proofs.NumberLoads.{number_load}
 use Rattle.iss_bounded.proofs.StoodBounds.{calls_after}
 use Rattle.iss_bounded.proofs.StoodNumbers.{HasRoom, kept_number, legal_sums, number_of_list, room_again, sums_shown, sums_step}
+use Rattle.iss_bounded.proofs.UserKeys.{is_user_key, none_passing, users_again, users_kept, users_shown}
 
 -- counters of a control that a core shows ----
 
@@ -99,6 +103,7 @@ module _ (txns : List TxnNow) (name : List ℕ) where
 record AreFew (n : ℕ) (s : CoreState) : Type 0 where
   sums : HasRoom n s
   counters : CountersWithin (pos (3 * n)) s
+  accounts : AccountsWithin (pos (3 * n)) s
   names : HaveDistinctNames s.controls
 
 few_shown : (w : CoreState) → HasCallsAgain w → HasTxnsAgain w → AreFew w.count w → AreFewEnough (shown w)
@@ -110,8 +115,15 @@ few_shown w calls txns few =
           (subst (λ (xs : List CallNow). counters_of_control name (shown w).counters + asked_number xs + live_number w.holdings.txns ≤ 3 * w.count) (sym calls)
           (grouped (counters_of_control name (shown w).counters) (asked_number w.calls) (live_number w.holdings.txns) (3 * w.count)
           (number_within w.holdings.txns name (number_load w) (3 * w.count) (least (number_load w) (3 * w.count) few.counters.its.none) w.controls few.names (all w.controls few.counters.its.each))));
+      accounts =
+          subst (λ (ts : List TxnNow). user_accounts (shown w).balances + asked_number (rebuilt (shown w)).calls + live_number ts ≤ 3 * w.count) (sym txns)
+          (subst (λ (xs : List CallNow). user_accounts (shown w).balances + asked_number xs + live_number w.holdings.txns ≤ 3 * w.count) (sym calls)
+          (kept (user_accounts (shown w).balances) (users_kept w.balances) (asked_number w.calls) (live_number w.holdings.txns) (3 * w.count) (users_shown (finite.entries w.balances)) few.accounts.its));
     }
   where
+    kept : (a k b c m : ℕ) → a ≡ k → pos k ≤ℤ (pos m +ℤ neg_ℤ (pos (b + c))) → a + b + c ≤ m
+    kept a k b c m e h = omega (arith, ints, e, h)
+
     grouped : (a b c m : ℕ) → a + (b + c) ≤ m → a + b + c ≤ m
     grouped a b c m h = omega (arith, h)
 
@@ -140,6 +152,7 @@ few_again s h =
               (events_again s).controls;
         };
       };
+      accounts = record { its = one (users_kept c.balances) (user_accounts s.balances) (asked_number c.calls) (live_number c.holdings.txns) (3 * s.records) (users_again s.balances) h.accounts };
       names = names_again s;
     }
   where
@@ -162,6 +175,7 @@ few_step n s r well new h =
     record {
       sums = sums_step n s r well new h.sums;
       counters = subst (λ (z : ℤ). CountersWithin z (step core_keeper s r).world) (three n) (counters_step (pos (3 * n)) s r well new h.counters);
+      accounts = subst (λ (z : ℤ). AccountsWithin z (step core_keeper s r).world) (three n) (accounts_step (pos (3 * n)) s r well new h.accounts);
       names = names_step s r h.names;
     }
   where
@@ -184,19 +198,24 @@ many_after s r sound h now =
 record AreFewOfRecords (rs : List Record) (s : CoreState) : Type 0 where
   well : IsWell s
   counters : CountersWithin (pos (3 * length rs)) s
+  accounts : AccountsWithin (pos (3 * length rs)) s
   names : HaveDistinctNames s.controls
 
 pub legal_many : (rs : List Record) → IsLegal rs → AreFewEnough (shown (core_of rs))
 legal_many rs legal =
-    let h = legal_induction AreFewOfRecords (record { well = nothing_well; counters = record { its = record { none = omega (arith, ints); each = tt } }; names = refl })
+    let h = legal_induction AreFewOfRecords (record { well = nothing_well; counters = record { its = record { none = omega (arith, ints); each = tt } }; accounts = record { its = no_users }; names = refl })
     (λ rs r new h. record {
       well = step_well (core_of rs) r new h.well;
       counters = subst (λ (z : ℤ). CountersWithin z (step core_keeper (core_of rs) r).world) (longer (length rs) (length (rs ++ r ∷ [])) (length-append rs (r ∷ []))) (counters_step (pos (3 * length rs)) (core_of rs) r h.well new h.counters);
+      accounts = subst (λ (z : ℤ). AccountsWithin z (step core_keeper (core_of rs) r).world) (longer (length rs) (length (rs ++ r ∷ [])) (length-append rs (r ∷ []))) (accounts_step (pos (3 * length rs)) (core_of rs) r h.well new h.accounts);
       names = names_step (core_of rs) r h.names;
     }) rs legal
     in few_shown (core_of rs) (legal_calls_rebuilt rs legal) (legal_txns_rebuilt rs legal)
-    (subst (λ (n : ℕ). AreFew n (core_of rs)) (sym (record_count rs)) (record { sums = legal_sums rs legal; counters = h.counters; names = h.names }))
+    (subst (λ (n : ℕ). AreFew n (core_of rs)) (sym (record_count rs)) (record { sums = legal_sums rs legal; counters = h.counters; accounts = h.accounts; names = h.names }))
   where
+    no_users : pos (users_kept nothing_kept) ≤ℤ (pos 0 +ℤ neg_ℤ (pos 0))
+    no_users = omega (arith, ints, none_passing is_user_key)
+
     longer : (n m : ℕ) → m ≡ n + 1 → pos (3 * n) +ℤ pos 3 ≡ pos (3 * m)
     longer n m e = omega (arith, ints, e)
 

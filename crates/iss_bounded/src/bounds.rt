@@ -18,8 +18,8 @@ pub fn bounds_stay()
     ensures records { (rs : List Record) → IsLegal rs → AreRecords rs → AreBounded (state_of (history_of rs)) }
 {}
 
-/// The empty state has no more sums and counters than its records allow. A record that is new on a well-formed state leaves no more if there were
-/// no more. So it is of the state of legal records, told over their whole book.
+/// The empty state has no more sums, counters and users' accounts than its records allow. A record that is new on a well-formed state leaves no
+/// more if there were no more. So it is of the state of legal records, told over their whole book.
 #[tactic(auto, using(crate::proofs::SoundNumbers::nothing_many))]
 pub fn numbers_stay()
     ensures begins { AreFewEnough no_state }
