@@ -1,0 +1,10 @@
+pub mod Firsts
+pub mod Fresh
+pub mod ListedAs
+pub mod LiveFrom
+pub mod Numbered
+pub mod OneEvent
+pub mod ReadBack
+pub mod ReadBy
+pub mod ShownAgain
+pub mod Taking
