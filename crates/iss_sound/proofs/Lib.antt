@@ -1,1 +1,3 @@
 pub mod SoundSteps
+pub mod Apart
+pub mod InParts

@@ -3,8 +3,13 @@ use Rattle.std.specs.Prelude.{List}
 use Rattle.iss_model.specs.declared.input.Record.{Record}
 use Rattle.iss_model.specs.declared.state.State.{State}
 use Rattle.iss_model.specs.rules.Histories.{history_of}
+use Rattle.iss_states.specs.Order.{AreInOrder}
 use Rattle.iss_states.specs.OverBook.{state_of}
-use Rattle.iss_well_formed.specs.WellFormed.{IsWellFormed}
+use Rattle.iss_well_formed.specs.Again.{AreOfTheirEvents}
+use Rattle.iss_well_formed.specs.Events.{AreMarkedWell, ArePendingIfAsked}
+use Rattle.iss_well_formed.specs.Notices.{AreToldWell}
+use Rattle.iss_well_formed.specs.Txns.{AreFair, AreSumsDone, HoldWell}
+use Rattle.iss_well_formed.specs.WellFormed.{HasFewNotices, IsWellFormed}
 use Rattle.iss_balanced.specs.Owed.{AreOwed}
 use Rattle.iss_bounded.specs.Bounds.{AreBounded}
 use Rattle.iss_bounded.specs.Many.{AreFewEnough}
@@ -25,6 +30,31 @@ use Rattle.iss_reasoned.specs.Reasons.{HaveReasons}
 -- what they tell.
 pub record IsSoundState (s : State) : Type 0 where
   pub formed : IsWellFormed s
+  pub verdicts : HaveSoundVerdicts s
+  pub approved : AreApproved s
+  pub unpaid : OwnAreUnpaid s
+  pub reasons : HaveReasons s
+  pub purchases : ArePurchases s
+  pub turns : ComeInTurn s
+  pub names : AreNamesKnown s
+  pub owed : AreOwed s
+  pub bounded : AreBounded s
+  pub few : AreFewEnough s
+  pub addressed : AreAddressed s
+  pub amounts : AmountsFit s
+  pub given : GiveBackWithin s
+
+-- All rules of a sound state hold, but for one: that each setting and each load is decided as those before it have it.
+pub record IsSoundButSettings (s : State) : Type 0 where
+  pub order : AreInOrder s
+  pub pending : ArePendingIfAsked s
+  pub own : AreOfTheirEvents s
+  pub marked : AreMarkedWell s
+  pub holds : HoldWell s
+  pub done : AreSumsDone s
+  pub fair : AreFair s
+  pub told : AreToldWell s
+  pub committed : HasFewNotices s
   pub verdicts : HaveSoundVerdicts s
   pub approved : AreApproved s
   pub unpaid : OwnAreUnpaid s

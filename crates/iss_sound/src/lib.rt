@@ -1,10 +1,12 @@
-//! When a state is sound: all its rules together.
+//! When a state is sound: all its rules together, and the test of them.
 //!
-//! It may cite `iss_model` and the crates of laws over it: `iss_acts`, `iss_agreement`, `iss_state`, `iss_states`, `iss_rebuilt`,
-//! `iss_well_formed`, `iss_decided`, `iss_reasoned`, `iss_named`, `iss_noticed`, `iss_balanced` and `iss_bounded`. It must not cite any
-//! body: its laws are of definitions.
+//! It may cite `iss_model`, the crates of laws over it, and the crates that test parts of a state: `iss_known`, `iss_sound_events`,
+//! `iss_sound_txns`, `iss_sound_verdicts`, `iss_sound_counters`, `iss_sound_notices` and `iss_sound_balances`. It must not cite the core or
+//! its parts.
 #![tactic(auto)]
 
-mod sound;
+mod laws;
+mod testing;
 
-pub use sound::states_stay_sound;
+pub use laws::states_stay_sound;
+pub use testing::sound;

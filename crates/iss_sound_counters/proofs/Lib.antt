@@ -1,0 +1,4 @@
+pub mod Grouping
+pub mod Apart
+pub mod KeyOrder
+pub mod Passing

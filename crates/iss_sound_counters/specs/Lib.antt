@@ -1,0 +1,5 @@
+pub mod Groups
+pub mod Rising
+pub mod Limits
+pub mod Passing
+pub mod Sound

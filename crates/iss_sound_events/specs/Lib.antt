@@ -1,0 +1,4 @@
+pub mod Named
+pub mod Alone
+pub mod Totals
+pub mod Done

@@ -1,0 +1,17 @@
+//! What can be told of a state's events and of its transactions' sums without a core that is made again.
+//!
+//! It may cite `iss_model`, `iss_index` and definitions of `iss_states`, `iss_well_formed` and `iss_decided`.
+//! It must not cite the core or its parts.
+#![tactic(auto)]
+
+mod events;
+mod forms;
+mod listed;
+mod names;
+mod order;
+mod sums;
+mod totals;
+mod verdicts;
+
+pub use events::are_events_sound;
+pub use sums::are_sums_done;

@@ -1,0 +1,3 @@
+mod StoodOrder
+mod StoodSums
+mod NoticeRules

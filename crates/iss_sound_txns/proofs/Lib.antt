@@ -1,0 +1,7 @@
+mod Alone
+pub mod AskedKnown
+pub mod Committed
+mod Entered
+mod Few
+mod Opened
+mod Together
