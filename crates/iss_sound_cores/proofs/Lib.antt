@@ -1,0 +1,10 @@
+mod CountedAgain
+mod EventWeights
+mod Regrouped
+mod AskedAgain
+mod FormsAgain
+mod PartsToldAgain
+mod TxnSumsAgain
+mod WithinAgain
+mod CoresAgain
+mod LeastSteps
