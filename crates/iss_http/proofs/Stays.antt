@@ -12,7 +12,7 @@ use Rattle.iss_http.specs.declared.faults.HttpFault.TheVariants.{HeadLong, Metho
 use Rattle.iss_http.specs.Heads.{RequestHead, ResponseHead, request_head, response_head}
 use Rattle.iss_http.specs.Lengths.{has, content_length}
 use Rattle.iss_http.specs.Requests as asks
-use Rattle.iss_http.specs.Requests.{Request, body, faulty, request, request_at, IsHopelessRequest, request_within, request_sized, request_coded, request_headed, request_by_head}
+use Rattle.iss_http.specs.Requests.{Request, body, faulty, request, jit_request, request_at, IsHopelessRequest, request_within, request_sized, request_coded, request_headed, request_by_head}
 use Rattle.iss_http.specs.Answers as answers
 use Rattle.iss_http.specs.Answers.{AnswerReading, garbled, whole, unless_over, answer_read, IsHopelessAnswer, answer_within, answer_sized, answer_coded, answer_headed, answer_by_head}
 use Rattle.iss_http.proofs.Sections.{is_there}
@@ -132,6 +132,10 @@ pub request_later : (bytes rest : List ℕ) → IsLater (request bytes) (request
 unfolding request
 request_later bytes rest = later_at (codes "/events") bytes rest
 
+pub jit_later : (bytes rest : List ℕ) → IsLater (jit_request bytes) (jit_request (bytes ++ rest))
+unfolding jit_request
+jit_later bytes rest = later_at (codes "/jit") bytes rest
+
 -- Answers.
 
 abbrev IsHeardLater : AnswerReading → AnswerReading → Type 0
@@ -220,6 +224,10 @@ waits_at path bytes none = ap (request_by_head path bytes) (no_front bytes none)
 pub hopeless_waits : (bytes : List ℕ) → IsHopelessRequest bytes → request bytes ≡ (if nat_le MOST_HEAD (length bytes) then faulty HeadLong else asks.more)
 unfolding request
 hopeless_waits bytes none = waits_at (codes "/events") bytes none
+
+pub jit_waits : (bytes : List ℕ) → IsHopelessRequest bytes → jit_request bytes ≡ (if nat_le MOST_HEAD (length bytes) then faulty HeadLong else asks.more)
+unfolding jit_request
+jit_waits bytes none = waits_at (codes "/jit") bytes none
 
 no_response : (bytes : List ℕ) → IsHopelessAnswer bytes → response_head (take MOST_HEAD bytes) ≡ None
 unfolding IsHopelessAnswer

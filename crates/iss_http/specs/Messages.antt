@@ -1,7 +1,7 @@
 -- What is sent over HTTP: responses to clients, and requests to the gateway.
 use Rattle.std.specs.Prelude.{◌≡◌, ◌⊎◌, ℕ, List, [], ◌∷◌, ◌++◌, length, codes, decimal, unwrap_or}
 use Rattle.http.specs.StatusCode.{reason_phrase}
-use Rattle.iss_http.specs.declared.statuses.TheConstants.{OK, BAD_REQUEST, NOT_FOUND, CONFLICT, INSUFFICIENT_STORAGE}
+use Rattle.iss_http.specs.declared.statuses.TheConstants.{OK, BAD_REQUEST, PAYMENT_REQUIRED, NOT_FOUND, CONFLICT, INSUFFICIENT_STORAGE}
 
 -- what ends a line
 abbrev pub crlf : List ℕ
@@ -27,4 +27,4 @@ ask text = message (codes "POST /jit HTTP/1.1" ++ crlf ++ codes "Host: localhost
 
 -- the statuses of responses
 abbrev pub IsStatus : ℕ → Type 0
-IsStatus n = (n ≡ OK) ⊎ (n ≡ BAD_REQUEST) ⊎ (n ≡ NOT_FOUND) ⊎ (n ≡ CONFLICT) ⊎ (n ≡ INSUFFICIENT_STORAGE)
+IsStatus n = (n ≡ OK) ⊎ (n ≡ BAD_REQUEST) ⊎ (n ≡ NOT_FOUND) ⊎ (n ≡ CONFLICT) ⊎ (n ≡ INSUFFICIENT_STORAGE) ⊎ (n ≡ PAYMENT_REQUIRED)

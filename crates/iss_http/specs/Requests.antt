@@ -52,6 +52,10 @@ request_at path bytes = request_by_head path bytes (request_head (take MOST_HEAD
 unfoldable pub request : List ℕ → Request
 request bytes = request_at (codes "/events") bytes
 
+-- what the bytes are as a request to a gateway, which goes to the path of its funding
+unfoldable pub jit_request : List ℕ → Request
+jit_request bytes = request_at (codes "/jit") bytes
+
 -- whatever comes after them, the bytes begin with no head
 unfoldable pub IsHopelessRequest : List ℕ → Type 0
 IsHopelessRequest bytes = (rest : List ℕ) → request_head (bytes ++ rest) ≡ None
@@ -83,6 +87,10 @@ HasFault bytes f = HasFaultAs request bytes f
 -- a client's request has the fault that is told
 abbrev pub IsCause : List ℕ → FeedFault → Type 0
 IsCause bytes f = IsCauseAs request bytes f
+
+-- a request to a gateway has the fault that is told
+abbrev pub IsJitCause : List ℕ → FeedFault → Type 0
+IsJitCause bytes f = IsCauseAs jit_request bytes f
 
 -- bytes that no head of a request begins with are refused once they are as long as a head may be
 abbrev pub hopeless_request : List ℕ → Request

@@ -9,7 +9,7 @@ pub enum HttpFault {
     HeadLong,
     /// The method isn't POST.
     Method,
-    /// The target isn't `/events`.
+    /// The target isn't the path that is served: `/events` for clients, `/jit` for a gateway.
     Path,
     /// The body has a transfer coding or a content coding.
     Coding,

@@ -21,5 +21,8 @@ pub use answers::{Answer, AnswerReader};
 pub use faults::{FeedFault, HttpFault};
 pub use laws::{a_bad_head_begins_nothing, what_is_whole_stays};
 pub use messages::{ask, respond, write_ask, write_response};
-pub use requests::RequestReader;
-pub use worked::{worked_answers, worked_faults, worked_hopeless, worked_requests, worked_texts};
+pub use requests::{JitReader, RequestReader};
+pub use worked::{
+    worked_answers, worked_faults, worked_hopeless, worked_jit_requests, worked_requests,
+    worked_texts,
+};

@@ -1,6 +1,6 @@
 //! A client's request, read in any pieces.
 ghost use Rattle.std.specs.Prelude.{◌≡◌, ◌≤◌, ◌++◌, [], length, option_map, IfOk, IfErr, IfNone};
-ghost use Rattle.iss_http.specs.Requests.{request, request_at, answered, told, request_headed, request_sized, HasFaultAs, IsCause, IsCauseAs};
+ghost use Rattle.iss_http.specs.Requests.{request, jit_request, request_at, answered, told, request_headed, request_sized, HasFaultAs, IsCause, IsJitCause, IsCauseAs};
 ghost use Rattle.iss_http.specs.Spans.{request_from};
 
 use crate::faults::{FeedFault, HttpFault};
@@ -15,6 +15,9 @@ use std::marker::Model;
 
 /// The path of a client's requests.
 const EVENTS: &str = "/events";
+
+/// The path of requests to a gateway.
+const JIT: &str = "/jit";
 
 /// Reads one request, whose bytes come in any pieces. A contract sees the bytes that came so far.
 #[derive(Drop)]
@@ -57,6 +60,48 @@ impl RequestReader {
         ensures bounded { length self.new ≤ MOST_REQUEST }
     {
         feed_bytes(EVENTS, &mut self.bytes, alloc, piece)
+    }
+}
+
+/// Reads one request to a gateway, as `RequestReader` reads a client's. A contract sees the bytes that came so far.
+#[derive(Drop)]
+pub struct JitReader {
+    bytes: Vec<u8>,
+}
+
+impl Model for JitReader {
+    ghost use Rattle.std.specs.Prelude.{List, ℕ, length, ◌≤◌};
+    ghost use Rattle.iss_http.specs.declared.limits.TheConstants.{MOST_REQUEST};
+
+    ghost Value = { List ℕ };
+
+    ghost view = { λ r. r.bytes.items };
+
+    ghost invariant = { λ r. length r.bytes.items ≤ MOST_REQUEST };
+}
+
+impl JitReader {
+    /// A reader that has received no bytes.
+    pub fn new(alloc: Global) -> Result<JitReader, AllocError>
+        ensures { IfOk result (λ reader. reader ≡ []) }
+    {
+        Ok(JitReader {
+            bytes: Vec::with_capacity(alloc, 1024)?,
+        })
+    }
+
+    /// Takes the next bytes, and returns the body when the request is whole; what comes after it is ignored.
+    ///
+    /// Its results are those of `RequestReader::feed`, and the target isn't faulty if it is `/jit`.
+    #[tactic(auto, unfolding(crate::specs::Requests::jit_request))]
+    pub fn feed(&mut self, alloc: Global, piece: &[u8]) -> Result<Option<Vec<u8>>, FeedFault>
+        ensures body { IfOk result
+            (λ said. jit_request (self.old ++ piece.now) ≡ answered (option_map (λ text. text.items) said)) }
+        ensures fault { IfErr result (IsJitCause (self.old ++ piece.now)) }
+        ensures kept { IfOk result (λ said. IfNone said (self.new ≡ self.old ++ piece.now)) }
+        ensures bounded { length self.new ≤ MOST_REQUEST }
+    {
+        feed_bytes(JIT, &mut self.bytes, alloc, piece)
     }
 }
 

@@ -6,6 +6,9 @@ pub const OK: u16 = 200;
 /// The request or its body isn't in form.
 pub const BAD_REQUEST: u16 = 400;
 
+/// A gateway doesn't fund what it is asked for.
+pub const PAYMENT_REQUIRED: u16 = 402;
+
 /// The target is no path that is served.
 pub const NOT_FOUND: u16 = 404;
 

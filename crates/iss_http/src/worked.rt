@@ -1,7 +1,7 @@
 //! Worked messages: the checker computes what each of them is.
 ghost use Rattle.std.specs.Prelude.{◌≡◌, ◌∷◌, [], codes, take, true, false};
 ghost use Rattle.iss_http.specs.declared.faults.HttpFault.TheVariants.{Method, Path, Coding, NoLength, BodyLong};
-ghost use Rattle.iss_http.specs.Requests.{request, more, body, faulty, IsHopelessRequest};
+ghost use Rattle.iss_http.specs.Requests.{request, jit_request, more, body, faulty, IsHopelessRequest};
 ghost use Rattle.iss_http.specs.Answers as answers;
 ghost use Rattle.iss_http.specs.Answers.{answer_read, ended, garbled, whole};
 ghost use Rattle.iss_http.specs.Messages.{respond, ask};
@@ -16,6 +16,13 @@ pub fn worked_requests()
     ensures behind { request (posted ("Content-Length: 2" ∷ []) "{} and more") ≡ body (codes "{}") }
     ensures head_cut { request (take 40 (posted ("Content-Length: 2" ∷ []) "{}")) ≡ more }
     ensures body_cut { request (posted ("Content-Length: 2" ∷ []) "{") ≡ more }
+{}
+
+/// Requests to a gateway: one that is taken, and one to the path of events.
+#[tactic(auto, unfolding(crate::specs::Requests::jit_request, crate::specs::Requests::request_headed, crate::specs::Heads::request_head, crate::specs::Lengths::content_length, crate::specs::Lengths::length_of, crate::specs::Worked::is_utf8, crate::specs::Worked::is_token_byte, crate::specs::Worked::trim_ows))]
+pub fn worked_jit_requests()
+    ensures taken { jit_request (sent ("POST /jit HTTP/1.1" ∷ "Content-Length: 2" ∷ []) "{}") ≡ body (codes "{}") }
+    ensures events { jit_request (posted ("Content-Length: 2" ∷ []) "{}") ≡ faulty Path }
 {}
 
 /// Requests that are refused.
@@ -52,6 +59,8 @@ pub fn worked_answers()
 pub fn worked_texts()
     ensures response { respond 409 (codes "{}")
         ≡ sent ("HTTP/1.1 409 Conflict" ∷ last_headers) "{}" }
+    ensures refused { respond 402 (codes "{}")
+        ≡ sent ("HTTP/1.1 402 Payment Required" ∷ last_headers) "{}" }
     ensures asked { ask (codes "{}")
         ≡ sent ("POST /jit HTTP/1.1" ∷ "Host: localhost" ∷ last_headers) "{}" }
 {}
