@@ -1,0 +1,12 @@
+pub mod Within
+pub mod Trees
+pub mod Owed
+pub mod Indexed
+pub mod Transcripts
+pub mod AddedUp
+pub mod BodyTexts
+pub mod Plain
+pub mod Objects
+pub mod Limits
+pub mod ReadAgain
+pub mod Told

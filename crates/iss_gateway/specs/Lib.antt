@@ -1,0 +1,9 @@
+pub mod Messages
+pub mod Readings
+pub mod Bodies
+pub mod Books
+pub mod Rules
+pub mod Tables
+pub mod Honest
+pub mod Laws
+pub mod Answering
