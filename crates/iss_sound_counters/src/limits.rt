@@ -4,9 +4,9 @@ ghost use Rattle.std.specs.List.{list_all};
 ghost use Rattle.iss_noticed.specs.Commitments.{most_of_records};
 ghost use Rattle.iss_sound_counters.specs.Limits.{is_between, is_within};
 
-use iss_sound_txns::Open;
 use iss_model::Counter;
 use iss_model::limits::GREATEST_AMOUNT;
+use iss_sound_txns::Open;
 
 /// Whether each counter's amount and its count are between their bounds, for this many records.
 pub(crate) fn are_within(counters: &[Counter], records: u32, still_open: &Open) -> bool

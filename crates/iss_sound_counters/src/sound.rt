@@ -8,9 +8,9 @@ ghost use Rattle.iss_sound_counters.specs.Sound.{AreCountersSound};
 
 use crate::groups::stand_in_groups;
 use crate::limits::are_within;
-use iss_sound_txns::Open;
 use iss_known::Known;
 use iss_model::{Counter, State};
+use iss_sound_txns::Open;
 
 /// Whether a state's counters are sound: of known controls and users, in their order and once each,
 /// no more than its records can have made, and between their bounds.

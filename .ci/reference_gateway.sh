@@ -2,7 +2,7 @@
 # The reference gateway as a program: its words, what it answers to each kind of request, and how it ends. Then the issuer asks it for two
 # hundred purchases at a time, while either side is killed by signal 9 or held up, and clients clear and reverse some of them. In the end,
 # if no call is open and each notice is acknowledged, the two sides' totals meet.
-. "$(dirname "$0")/../serving.sh"
+. "$(dirname "$0")/serving.sh"
 
 reference=crates/issuer_gateway/out/issuer_gateway
 [ -x "$reference" ] || (cd crates/issuer_gateway && rt run) >&2
