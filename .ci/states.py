@@ -9,6 +9,7 @@ import sys
 
 LAST_STAMP = 253_370_764_799_999
 MOST_RECORDS = (1 << 30) - 1
+LEAST_AMOUNT = 1
 GREATEST_AMOUNT = 1_000_000_000
 DAY = 86_400_000
 DIGITS = {"USD": 2, "EUR": 2, "GBP": 2, "CAD": 2, "AUD": 2, "JPY": 0, "KWD": 3}
@@ -18,14 +19,15 @@ NOTICES = ("void", "standin", "reversal", "capture", "refund", "expiry")
 OWNERS = {"gateway": 1, "network": 2, "programme": 3, "user": 4}
 
 
-BROKEN = []
+def noting(found):
+    """A function that notes among those found each rule that a state breaks."""
 
+    def must(rule, holds):
+        if not holds and rule not in found:
+            found.append(rule)
+        return holds
 
-def must(rule, holds):
-    """Notes a rule that a state breaks."""
-    if not holds and rule not in BROKEN:
-        BROKEN.append(rule)
-    return holds
+    return must
 
 
 def amount_of(event):
@@ -87,7 +89,7 @@ def rises(keys):
     return all(a < b for a, b in zip(keys, keys[1:]))
 
 
-def check_order(s):
+def check_order(s, must):
     must("records", s["records"] <= MOST_RECORDS)
     must("now", s["now"] <= LAST_STAMP)
     numbers = [0] + [e["number"] for e in s["events"]]
@@ -98,10 +100,10 @@ def check_order(s):
     must("tokens", len(set(tokens)) == len(tokens))
     for e in s["events"]:
         if "minor" in e["body"]:
-            must("form", 1 <= e["body"]["minor"] <= GREATEST_AMOUNT)
+            must("form", LEAST_AMOUNT <= e["body"]["minor"] <= GREATEST_AMOUNT)
 
 
-def known_of(s):
+def known_of(s, must):
     """What the events make known: first things of a name stand. Transactions begin with their authorisations."""
     known = {
         "users": set(),
@@ -149,7 +151,7 @@ def known_of(s):
     return known
 
 
-def check_verdicts(s, known):
+def check_verdicts(s, known, must):
     for e in s["events"]:
         body, kind, verdict, mark = e["body"], e["body"]["type"], e["verdict"], e["mark"]
         ask = kind in ("authorization", "increment")
@@ -171,6 +173,7 @@ def check_verdicts(s, known):
                 continue
             _, currency, amount = verdict.split(":")
             must("same part", int(amount) == int(mark.split(":")[1]))
+            must("least part", int(amount) >= LEAST_AMOUNT)
             if not must("permitted", kind == "authorization" and body.get("partial") is True and currency == body["currency"]):
                 continue
             must("less", int(amount) < body["minor"])
@@ -182,7 +185,7 @@ def check_verdicts(s, known):
             must("set", verdict.split(":")[2] in known["sets"])
 
 
-def check_txns(s, known):
+def check_txns(s, known, must):
     must("begun", [t["token"] for t in s["txns"]] == list(known["txns"]))
     asked = [c for c in known["calls"] if c["asked"]]
     first_asked = {c["txn"] for c in asked if c["first"]}
@@ -201,7 +204,7 @@ def check_txns(s, known):
                 must("in turn", of is not None and of["origin"] < e["number"] and body["txn"] not in first_asked)
 
 
-def check_sums(s, known):
+def check_sums(s, known, must):
     for t in s["txns"]:
         if t["token"] not in known["txns"]:
             continue
@@ -230,7 +233,7 @@ def check_sums(s, known):
             must("gateway's", t["s"] == 0)
 
 
-def check_balances(s, known):
+def check_balances(s, known, must):
     owed = {}
 
     def give(kind, user, currency, amount):
@@ -260,7 +263,7 @@ def check_balances(s, known):
     must("unlisted", not any(owed.values()))
 
 
-def check_bounds(s, known):
+def check_bounds(s, known, must):
     records, most = s["records"], s["records"] * GREATEST_AMOUNT
     asked = [c for c in known["calls"] if c["asked"]]
     live = sum(t["live"] for t in s["txns"])
@@ -279,7 +282,7 @@ def check_bounds(s, known):
     must("notices", s["made"] + 2 * len(asked) + live <= 4 * records)
 
 
-def check_names(s, known):
+def check_names(s, known, must):
     places = {name: place for place, name in enumerate(known["controls"])}
     keys = []
     for k in s["counters"]:
@@ -306,7 +309,7 @@ def check_names(s, known):
     must("sums in order", rises([(x["product"].encode() + b"\0", x["user"].encode() + b"\0", x["day"]) for x in s["sums"]]))
 
 
-def check_notices(s, known):
+def check_notices(s, known, must):
     most = s["records"] * GREATEST_AMOUNT
     numbers = [0] + [n["number"] for n in s["notices"]]
     must("numbers of notices", rises(numbers) and numbers[-1] <= s["made"])
@@ -324,14 +327,19 @@ def check_notices(s, known):
 
 
 def broken(lines):
+    """The rules that the state of these lines breaks: none if it is sound."""
+    return rules_broken(state_of(lines))
+
+
+def rules_broken(s):
     """The rules that a state breaks: none if it is sound."""
-    s = state_of(lines)
-    BROKEN.clear()
-    check_order(s)
-    known = known_of(s)
+    found = []
+    must = noting(found)
+    check_order(s, must)
+    known = known_of(s, must)
     for check in (check_txns, check_verdicts, check_sums, check_balances, check_bounds, check_names, check_notices):
-        check(s, known)
-    return list(BROKEN)
+        check(s, known, must)
+    return found
 
 
 def changed(lines, changes):

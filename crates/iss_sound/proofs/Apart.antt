@@ -18,6 +18,7 @@ other_rules s h =
       told = h.formed.told;
       committed = h.formed.few;
       verdicts = h.verdicts;
+      least = h.least;
       approved = h.approved;
       unpaid = h.unpaid;
       reasons = h.reasons;
@@ -48,6 +49,7 @@ all_rules s h judged =
         few = h.committed;
       };
       verdicts = h.verdicts;
+      least = h.least;
       approved = h.approved;
       unpaid = h.unpaid;
       reasons = h.reasons;

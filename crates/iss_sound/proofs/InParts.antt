@@ -12,7 +12,7 @@ use Rattle.iss_sound.specs.Sound.{IsSoundButSettings}
 in_parts : (s : State) → IsSoundButSettings s → IsSoundInParts s
 in_parts s h =
     record {
-      alone = record { order = h.order; pending = h.pending; marked = h.marked; kinds = h.verdicts.kinds; parts = h.verdicts.parts };
+      alone = record { order = h.order; pending = h.pending; marked = h.marked; kinds = h.verdicts.kinds; parts = h.verdicts.parts; least = h.least };
       done = record { done = h.done; fair = h.fair; approved = h.approved };
       again = record { events = h.own.events; begun = h.own.begun };
       beside = record {
@@ -43,6 +43,7 @@ of_parts s h =
       told = lists.notices.told;
       committed = lists.notices.few;
       verdicts = record { kinds = h.alone.kinds; listed = beside.verdicts.listed; marked = beside.verdicts.marked; parts = h.alone.parts };
+      least = h.alone.least;
       approved = h.done.approved;
       unpaid = beside.txns.unpaid;
       reasons = beside.verdicts.reasons;

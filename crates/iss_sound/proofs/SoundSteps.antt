@@ -15,6 +15,7 @@ use Rattle.iss_bounded.proofs.SoundBounds.{nothing_within, within_after as bound
 use Rattle.iss_bounded.proofs.SoundNumbers.{many_after, nothing_many}
 use Rattle.iss_decided.proofs.AfterSteps.{approved_after, unpaid_after}
 use Rattle.iss_decided.proofs.SoundVerdicts.{decided_after, nothing_decided}
+use Rattle.iss_least.proofs.LeastSteps.{least_after, nothing_least}
 use Rattle.iss_named.proofs.KeptSteps.{known_after, nothing_known}
 use Rattle.iss_named.proofs.LegalStates.{legal_states}
 use Rattle.iss_noticed.proofs.AddressedSteps.{addressed_after}
@@ -30,6 +31,7 @@ nothing_sound =
     record {
       formed = nothing_formed;
       verdicts = nothing_decided;
+      least = nothing_least;
       approved = tt;
       unpaid = refl;
       reasons = refl;
@@ -49,6 +51,7 @@ sound_after s r h now =
     record {
       formed = formed_after s r h.formed now;
       verdicts = decided_after s r h.formed h.verdicts now;
+      least = least_after s r h.formed.order h.verdicts.parts h.least now;
       approved = approved_after s r h.formed h.approved now;
       unpaid = unpaid_after s r h.formed h.unpaid now;
       reasons = reasons_after s r h.formed h.reasons now;

@@ -15,6 +15,7 @@ use Rattle.iss_bounded.specs.Bounds.{AreBounded}
 use Rattle.iss_bounded.specs.Many.{AreFewEnough}
 use Rattle.iss_decided.specs.Approved.{AreApproved, OwnAreUnpaid}
 use Rattle.iss_decided.specs.Verdicts.{HaveSoundVerdicts}
+use Rattle.iss_least.specs.Least.{ArePartsOfLeast}
 use Rattle.iss_named.specs.Kept.{AreNamesKnown}
 use Rattle.iss_noticed.specs.Addressed.{AreAddressed}
 use Rattle.iss_noticed.specs.Commitments.{AmountsFit}
@@ -22,15 +23,16 @@ use Rattle.iss_noticed.specs.GivenBack.{GiveBackWithin}
 use Rattle.iss_reasoned.specs.Origins.{ArePurchases, ComeInTurn}
 use Rattle.iss_reasoned.specs.Reasons.{HaveReasons}
 
--- A state is sound. It is well-formed, and each verdict and each mark may stand where it does. Transactions hold and are paid no more than
--- was approved, and the programme pays nothing for account products. A decline has a reason that its event may have. Transactions are
--- purchases of known cards, and increments come in turn. Balances, counters and sums of stand-ins name what is known, in their orders. Each
--- account has the balance that it is owed. Counters and sums of stand-ins reach no further than the records can have moved them, and are no
--- more than the records can have made. Notices are addressed, and tell no more than records can have held, of which they give back at most
--- what they tell.
+-- A state is sound. It is well-formed, and each verdict and each mark may stand where it does. Each part that an event
+-- is approved for is at least the least amount. Transactions hold and are paid no more than was approved, and the programme pays nothing for
+-- account products. A decline has a reason that its event may have. Transactions are purchases of known cards, and increments come in turn.
+-- Balances, counters and sums of stand-ins name what is known, in their orders. Each account has the balance that it is owed. Counters and sums
+-- of stand-ins reach no further than the records can have moved them, and are no more than the records can have made. Notices are addressed,
+-- and tell no more than records can have held, of which they give back at most what they tell.
 pub record IsSoundState (s : State) : Type 0 where
   pub formed : IsWellFormed s
   pub verdicts : HaveSoundVerdicts s
+  pub least : ArePartsOfLeast s
   pub approved : AreApproved s
   pub unpaid : OwnAreUnpaid s
   pub reasons : HaveReasons s
@@ -56,6 +58,7 @@ pub record IsSoundButSettings (s : State) : Type 0 where
   pub told : AreToldWell s
   pub committed : HasFewNotices s
   pub verdicts : HaveSoundVerdicts s
+  pub least : ArePartsOfLeast s
   pub approved : AreApproved s
   pub unpaid : OwnAreUnpaid s
   pub reasons : HaveReasons s

@@ -9,4 +9,4 @@ mod laws;
 mod testing;
 
 pub use laws::states_stay_sound;
-pub use testing::sound;
+pub use testing::{known_if_sound, sound};

@@ -1,5 +1,5 @@
 //! The test of a state.
-ghost use Rattle.std.specs.Prelude.{◌↔◌, IfOk, IsTrue};
+ghost use Rattle.std.specs.Prelude.{◌↔◌, IfOk, IfSome, IsSome, IsTrue};
 ghost use Rattle.iss_states.specs.Rebuilding.{rebuilt};
 ghost use Rattle.iss_known.specs.Known.{IsKnownOf, IsReadAgain};
 ghost use Rattle.iss_sound_events.specs.Alone.{AreSoundAlone};
@@ -23,23 +23,48 @@ use std::alloc::{AllocError, Global};
 pub fn sound(alloc: Global, state: &State) -> Result<bool, AllocError>
     ensures { IfOk result (λ sound. IsTrue sound ↔ IsSoundButSettings state.entry.now) }
 {
-    is_sound_in_parts(alloc, state)
+    let known = known_if_sound(alloc, state)?;
+    Ok(known.is_some())
 }
 
-/// Whether a state's events are sound alone, and all is sound beside them.
-fn is_sound_in_parts(alloc: Global, state: &State) -> Result<bool, AllocError>
-    ensures { IfOk result (λ sound. IsTrue sound ↔ IsSoundInParts state.entry.now) }
+/// What the events of a state make known, if the state is sound, but for its settings. `None` exactly if it isn't.
+pub fn known_if_sound(alloc: Global, state: &State) -> Result<Option<Known>, AllocError>
+    ensures sound { IfOk result (λ known. IsSome known ↔ IsSoundButSettings state.entry.now) }
+    ensures known { IfOk result (λ known. IfSome known (λ k. IsKnownOf k (rebuilt state.entry.now))) }
+{
+    known_in_parts(alloc, state)
+}
+
+/// What is known of a state, if its events are sound alone, and all is sound beside them.
+fn known_in_parts(alloc: Global, state: &State) -> Result<Option<Known>, AllocError>
+    ensures sound { IfOk result (λ known. IsSome known ↔ IsSoundInParts state.entry.now) }
+    ensures known { IfOk result (λ known. IfSome known (λ k. IsKnownOf k (rebuilt state.entry.now))) }
 {
     if !are_events_sound(alloc, state)? {
-        return Ok(false);
+        return Ok(None);
     }
     if !are_sums_done(alloc, state)? {
-        return Ok(false);
+        return Ok(None);
     }
     match Known::of(alloc, state)? {
-        None => Ok(false),
-        Some(known) => is_sound_beside(alloc, state, &known),
+        None => Ok(None),
+        Some(known) => known_beside(alloc, state, known),
     }
+}
+
+/// What is known of the events, if all is sound beside it.
+fn known_beside(alloc: Global, state: &State, known: Known) -> Result<Option<Known>, AllocError>
+    requires alone { AreSoundAlone state.now }
+    requires done { HasSumsDone state.now }
+    requires again { IsReadAgain state.now }
+    requires known { IsKnownOf known (rebuilt state.now) }
+    ensures sound { IfOk result (λ k. IsSome k ↔ IsSoundBeside state.entry.now) }
+    ensures known { IfOk result (λ k. IfSome k (λ x. IsKnownOf x (rebuilt state.entry.now))) }
+{
+    if !is_sound_beside(alloc, state, &known)? {
+        return Ok(None);
+    }
+    Ok(Some(known))
 }
 
 /// Whether transactions, verdicts and sums are sound beside what is known of the events.

@@ -1,10 +1,5 @@
 mod CountedAgain
-mod EventWeights
-mod Regrouped
-mod AskedAgain
-mod FormsAgain
-mod PartsToldAgain
-mod TxnSumsAgain
+pub mod Regrouped
+pub mod TxnSumsAgain
 mod WithinAgain
-mod CoresAgain
-mod LeastSteps
+pub mod CoresAgain

@@ -13,7 +13,7 @@ use Rattle.iss_state.specs.Stakes.{are_distinct}
 use Rattle.iss_states.specs.Rebuilding.{is_done}
 use Rattle.iss_well_formed.specs.Txns.{cleared_amount, done_total}
 use Rattle.iss_decided.specs.Approved.{approved_amount, approved_for, approved_total}
-use Rattle.iss_sound_cores.proofs.EventWeights.{approved_by, done_by, moved_amount, total_by}
+use Rattle.iss_least.proofs.EventWeights.{approved_by, done_by, moved_amount, total_by}
 
 -- what these tokens come to
 abbrev pub over_tokens : (List ℕ → ℕ) → List (List ℕ) → ℕ

@@ -30,7 +30,7 @@ use Rattle.iss_well_formed.proofs.FairAgain.{found_at}
 use Rattle.iss_balanced.specs.Owed.{amount_if, loaded_in, loaded_to, loads_give, share_of, txns_total}
 use Rattle.iss_decided.specs.Approved.{AreWithinApproved, approved_amount, approved_total, is_ask_of}
 use Rattle.iss_noticed.specs.Commitments.{held_together}
-use Rattle.iss_sound_cores.proofs.EventWeights.{approved_by, done_by, done_most, moved_amount, total_by}
+use Rattle.iss_least.proofs.EventWeights.{approved_by, done_by, done_most, moved_amount, total_by}
 use Rattle.iss_sound_cores.proofs.Regrouped.{over_tokens}
 
 -- bounds ----

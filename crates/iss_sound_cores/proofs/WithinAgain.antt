@@ -42,10 +42,10 @@ use Rattle.iss_bounded.proofs.CounterBounds as counters
 use Rattle.iss_bounded.proofs.OpenAgain.{open_again}
 use Rattle.iss_bounded.proofs.OpenLoad.{orderly_of, tokens_distinct}
 use Rattle.iss_noticed.specs.Commitments.{held_together, most_of_records}
-use Rattle.iss_sound.specs.Sound.{IsSoundState}
-use Rattle.iss_sound_cores.proofs.AskedAgain.{asked_again}
-use Rattle.iss_sound_cores.proofs.EventWeights.{approved_by, asked_by, done_by, events_fit, total_by}
-use Rattle.iss_sound_cores.proofs.FormsAgain.{origins_again}
+use Rattle.iss_sound.specs.Sound.{IsSoundButSettings}
+use Rattle.iss_least.proofs.AskedAgain.{asked_again}
+use Rattle.iss_least.proofs.EventWeights.{approved_by, asked_by, done_by, events_fit, total_by}
+use Rattle.iss_least.proofs.FormsAgain.{origins_again}
 use Rattle.iss_sound_cores.proofs.Regrouped.{approved_regrouped, cleared_regrouped, over_tokens}
 use Rattle.iss_sound_cores.proofs.TxnSumsAgain.{AreSumsSmall, amounts_within, found_within, held_by_approved, held_within, owed_within, parts_within, pos_within, shares_regrouped, shares_size, sums_small, within_more, zero_within}
 use Rattle.iss_model.proofs.Lists.{map-map}
@@ -121,7 +121,7 @@ all_accepted p (t ∷ ts) h =
     by token true e = refl
     by token false e = e
 
-module _ (s : State) (h : IsSoundState s) where
+module _ (s : State) (h : IsSoundButSettings s) where
   abbrev c : CoreState
   c = rebuilt s
 
@@ -143,18 +143,18 @@ module _ (s : State) (h : IsSoundState s) where
   money = 2 * approved + 4 * done
 
   well : IsWell c
-  well = well_again s h.formed.order h.formed.pending h.formed.own
+  well = well_again s h.order h.pending h.own
 
   same_tokens : txn_tokens c.holdings.txns ≡ map (λ (t : Carried). t.txn) s.txns
-  same_tokens = sym (map-map standing (λ p. p.0) c.holdings.txns) ∙ ap (map (λ p. p.0)) h.formed.own.begun ∙ map-map listed (λ p. p.0) s.txns
+  same_tokens = sym (map-map standing (λ p. p.0) c.holdings.txns) ∙ ap (map (λ p. p.0)) h.own.begun ∙ map-map listed (λ p. p.0) s.txns
 
   distinct : are_distinct (map (λ (t : Carried). t.txn) s.txns) ≡ true
   distinct = ap are_distinct (sym same_tokens) ∙ tokens_distinct c.holdings.txns well.docket.txns.tokens
 
   all_fit : (approved + done) + asked ≤ s.records * GREATEST_AMOUNT
   all_fit =
-      events_fit s.records s.events h.formed.order.numbers
-      (record { records = h.formed.order.records; pending = h.formed.pending; marked = h.formed.marked; parts = h.verdicts.parts })
+      events_fit s.records s.events h.order.numbers
+      (record { records = h.order.records; pending = h.pending; marked = h.marked; parts = h.verdicts.parts })
 
   -- all that is held is at most what was approved
   held_most : held_together s.txns ≤ approved
@@ -172,12 +172,12 @@ module _ (s : State) (h : IsSoundState s) where
       so a d m n z e h k = omega (arith, e, h, k)
 
   small : Each (AreSumsSmall approved done) s.txns
-  small = sums_small s.events s.txns h.approved h.formed.done.listed
+  small = sums_small s.events s.txns h.approved h.done.listed
 
   stake_most : at_stake c ≤ approved + 2 * asked
   stake_most =
       so (total_held (txn_tokens c.holdings.txns) c.holdings.parts) (asked_amounts c.calls) (held_together s.txns) (total_asked c.calls) approved asked
-      (open_again s h.formed.own well) held_most (asked_again s.txns s.events)
+      (open_again s h.own well) held_most (asked_again s.txns s.events)
     where
       so : (t a g q m n : ℕ) → t + a ≤ g + a → g ≤ m → q ≤ n → t + 2 * q ≤ m + 2 * n
       so t a g q m n h k l = omega (arith, h, k, l)
@@ -186,7 +186,7 @@ module _ (s : State) (h : IsSoundState s) where
   balance_most a =
       subst (IsWithin money) (sym (h.owed.each a))
       (within_more (done + shares_size s.events s.txns) money (owed_balance s a) (so (shares_size s.events s.txns) approved done shares_most)
-      (owed_within a c.holdings.txns s.events s.txns h.approved h.formed.done.listed h.formed.fair))
+      (owed_within a c.holdings.txns s.events s.txns h.approved h.done.listed h.fair))
     where
       so : (z m n : ℕ) → z ≤ 2 * m + 2 * n → n + z ≤ 2 * m + 4 * n
       so z m n h = omega (arith, h)
@@ -243,7 +243,7 @@ module _ (s : State) (h : IsSoundState s) where
           (found_within money (map (λ (t : Carried). (t.txn, pos (amount t))) s.txns) key (amounts_within money approved done amount le s.txns small))
 
   orderly : IsOrderlyState c
-  orderly = orderly_of c well.docket.txns.tokens (held_again s h.formed.own h.formed.holds)
+  orderly = orderly_of c well.docket.txns.tokens (held_again s h.own h.holds)
 
   pub within_again : IsSoundAt s.records c
   within_again =
@@ -255,7 +255,7 @@ module _ (s : State) (h : IsSoundState s) where
         use_within = use_fits approved done asked (at_stake c) s.records all_fit stake_most;
         orderly = orderly;
         accepted = all_accepted (is_accepted c.accepted) c.holdings.txns well.docket.txns.events;
-        origins = origins_again s h.formed.order;
+        origins = origins_again s h.order;
       }
     where
       money_fits : (a d q z n : ℕ) → (a + d) + q ≤ n * GREATEST_AMOUNT → z ≤ a + 2 * q → (2 * a + 4 * d) + 2 * z ≤ reach_of n

@@ -11,6 +11,7 @@ use Rattle.iss_model.specs.texts.Spelling.{is_record}
 use Rattle.iss_states.specs.Order.{AreInOrder, do_numbers_rise, do_stamps_rise, is_event_record}
 use Rattle.iss_well_formed.specs.Events.{is_marked_well, is_pending_if_asked}
 use Rattle.iss_decided.specs.Verdicts.{do_parts_agree, is_decided_by_kind}
+use Rattle.iss_least.specs.Least.{is_of_least}
 use Rattle.iss_sound_events.specs.Alone.{AreSoundAlone, are_in_order, are_sound_alone, is_sound_seen}
 use Rattle.iss_sound_events.specs.Named.{are_named_apart, has_token}
 use Rattle.iss_sound_events.proofs.NamedApart.{apart_from_start}
@@ -66,45 +67,52 @@ in_order s order =
     order.few order.time order.numbers order.stamps order.records
     (apart_from_start s.events (have_tokens s.events order.records) ∙ order.tokens)
 
--- what each event passes of the four tests
-four_tests : (es : List Seen)
+-- what each event passes of the five tests
+five_tests : (es : List Seen)
     → list_all is_sound_seen es
-    ≡ (((list_all is_pending_if_asked es && list_all is_marked_well es) && list_all is_decided_by_kind es) && list_all do_parts_agree es)
-four_tests es =
-    all_of_both (λ e. (is_pending_if_asked e && is_marked_well e) && is_decided_by_kind e) do_parts_agree es
+    ≡ ((((list_all is_pending_if_asked es && list_all is_marked_well es) && list_all is_decided_by_kind es) && list_all do_parts_agree es)
+    && list_all (λ e. is_of_least e.verdict) es)
+five_tests es =
+    all_of_both (λ e. ((is_pending_if_asked e && is_marked_well e) && is_decided_by_kind e) && do_parts_agree e) (λ e. is_of_least e.verdict) es
+    ∙ ap (λ (b : Bool). b && list_all (λ e. is_of_least e.verdict) es)
+    (all_of_both (λ e. (is_pending_if_asked e && is_marked_well e) && is_decided_by_kind e) do_parts_agree es
     ∙ ap (λ (b : Bool). b && list_all do_parts_agree es)
     (all_of_both (λ e. is_pending_if_asked e && is_marked_well e) is_decided_by_kind es
-    ∙ ap (λ (b : Bool). b && list_all is_decided_by_kind es) (all_of_both is_pending_if_asked is_marked_well es))
+    ∙ ap (λ (b : Bool). b && list_all is_decided_by_kind es) (all_of_both is_pending_if_asked is_marked_well es)))
 
-all_four : (a b c d : Bool) → (((a && b) && c) && d) ≡ true → (a ≡ true) × ((b ≡ true) × ((c ≡ true) × (d ≡ true)))
-all_four true true true d h = (refl, (refl, (refl, h)))
-all_four true true false d h = absurd cc
-all_four true false c d h = absurd cc
-all_four false b c d h = absurd cc
+all_five : (a b c d e : Bool) → ((((a && b) && c) && d) && e) ≡ true
+    → (a ≡ true) × ((b ≡ true) × ((c ≡ true) × ((d ≡ true) × (e ≡ true))))
+all_five true true true true e h = (refl, (refl, (refl, (refl, h))))
+all_five true true true false e h = absurd cc
+all_five true true false d e h = absurd cc
+all_five true false c d e h = absurd cc
+all_five false b c d e h = absurd cc
 
-four : (a b c d : Bool) → a ≡ true → b ≡ true → c ≡ true → d ≡ true → (((a && b) && c) && d) ≡ true
-four a b c d p q r s = rw p (rw q (rw r s))
+five : (a b c d e : Bool) → a ≡ true → b ≡ true → c ≡ true → d ≡ true → e ≡ true → ((((a && b) && c) && d) && e) ≡ true
+five a b c d e p q r s t = rw p (rw q (rw r (rw s t)))
 
 alone : (s : State) → are_sound_alone s ≡ true → AreSoundAlone s
 alone s h =
     let parts = and_parts (list_all is_sound_seen s.events) (are_in_order s) h in
     let each =
-    all_four (list_all is_pending_if_asked s.events) (list_all is_marked_well s.events) (list_all is_decided_by_kind s.events)
-    (list_all do_parts_agree s.events) (sym (four_tests s.events) ∙ parts.0) in
+    all_five (list_all is_pending_if_asked s.events) (list_all is_marked_well s.events) (list_all is_decided_by_kind s.events)
+    (list_all do_parts_agree s.events) (list_all (λ e. is_of_least e.verdict) s.events) (sym (five_tests s.events) ∙ parts.0) in
     record {
       order = ordered s parts.1;
       pending = each.0;
       marked = each.1.0;
       kinds = each.1.1.0;
-      parts = each.1.1.1;
+      parts = each.1.1.1.0;
+      least = each.1.1.1.1;
     }
 
 passes : (s : State) → AreSoundAlone s → are_sound_alone s ≡ true
 passes s sound =
     ap₂ (λ (a b : Bool). a && b)
-    (four_tests s.events
-    ∙ four (list_all is_pending_if_asked s.events) (list_all is_marked_well s.events) (list_all is_decided_by_kind s.events)
-    (list_all do_parts_agree s.events) sound.pending sound.marked sound.kinds sound.parts)
+    (five_tests s.events
+    ∙ five (list_all is_pending_if_asked s.events) (list_all is_marked_well s.events) (list_all is_decided_by_kind s.events)
+    (list_all do_parts_agree s.events) (list_all (λ e. is_of_least e.verdict) s.events)
+    sound.pending sound.marked sound.kinds sound.parts sound.least)
     (in_order s sound.order)
 
 -- the test says what is asked

@@ -4,7 +4,9 @@ ghost use Rattle.std.specs.List.{list_all};
 ghost use Rattle.iss_sound_events.specs.Alone.{AreSoundAlone, are_sound_alone, is_sound_seen};
 
 use crate::order::are_in_order;
-use crate::verdicts::{do_parts_agree, is_decided_by_kind, is_marked_well, is_pending_if_asked};
+use crate::verdicts::{
+    do_parts_agree, is_decided_by_kind, is_marked_well, is_of_least, is_pending_if_asked,
+};
 use iss_model::{Seen, State};
 use std::alloc::{AllocError, Global};
 
@@ -39,4 +41,5 @@ fn is_sound_seen(event: &Seen) -> bool
         && is_marked_well(event)
         && is_decided_by_kind(event)
         && do_parts_agree(event)
+        && is_of_least(event.verdict)
 }

@@ -3,7 +3,9 @@ ghost use Rattle.std.specs.Prelude.{◌≡◌};
 ghost use Rattle.iss_states.specs.Showing.{is_asked_mark};
 ghost use Rattle.iss_well_formed.specs.Events.{is_ask, is_marked_well, is_pending_if_asked};
 ghost use Rattle.iss_decided.specs.Verdicts.{do_parts_agree, is_decided_by_kind, permits_this_part};
+ghost use Rattle.iss_least.specs.Least.{is_of_least};
 
+use iss_model::limits::LEAST_AMOUNT;
 use iss_model::{CallState, Currency, Failure, How, Input, Seen, Verdict};
 
 /// Whether an event is pending exactly if its call is asked.
@@ -60,6 +62,16 @@ pub(crate) fn do_parts_agree(event: &Seen) -> bool
         (Some(Verdict::Partial(..)), _) => false,
         (_, Some(CallState::Closed(How::Partial(_)))) => false,
         _ => true,
+    }
+}
+
+/// Whether a part that an event is approved for is at least the least amount.
+pub(crate) fn is_of_least(verdict: Option<Verdict>) -> bool
+    ensures { result ≡ is_of_least verdict }
+{
+    match verdict {
+        Some(Verdict::Partial(_, amount)) => LEAST_AMOUNT <= amount,
+        Some(Verdict::Done | Verdict::Approved | Verdict::Declined(_)) | None => true,
     }
 }
 

@@ -1,15 +1,13 @@
--- Each part that an event is approved for is at least the least amount, after each new record and in legal records.
-use Rattle.std.proofs.Common.{◌≡◌, ◌∙◌, ◌≤◌, length, List, refl, subst, true}
+-- Each part that an event is approved for is at least the least amount, after each new record too.
+use Rattle.std.proofs.Common.{◌≡◌, ◌∙◌, refl, true}
 use Rattle.std.specs.List.{list_all}
 use Rattle.std.proofs.lemmas.Bool.{and_parts}
 use Rattle.iss_model.specs.declared.input.Record.{Record}
-use Rattle.iss_model.specs.declared.limits.TheConstants.{MOST_RECORDS}
 use Rattle.iss_model.specs.declared.state.Seen.{Seen}
 use Rattle.iss_model.specs.declared.state.State.{State}
 use Rattle.iss_model.specs.Forms.{is_in_form, is_stamp}
 use Rattle.iss_model.specs.Tokens.{is_token}
 use Rattle.iss_model.specs.rules.Due.{thing_entries}
-use Rattle.iss_model.specs.rules.Histories.{IsLegal}
 use Rattle.iss_model.specs.rules.Stepping.{after_due, entries_of, step}
 use Rattle.iss_model.specs.state.Cores.{CoreState, core_facts, core_keeper, with_record}
 use Rattle.iss_model.specs.texts.Spelling.{has_spelling, is_record, tokens_of}
@@ -20,16 +18,11 @@ use Rattle.iss_state.proofs.invariants.FormStates.{entries_form, record_form}
 use Rattle.iss_states.specs.Order.{AreInOrder, IsNewOnState}
 use Rattle.iss_states.specs.Rebuilding.{rebuilt, state_after}
 use Rattle.iss_states.specs.Showing.{no_state, seen_in}
-use Rattle.iss_states.proofs.StateOfBook.{state_shown}
-use Rattle.iss_rebuilt.specs.Sums.{AreRecords}
 use Rattle.iss_well_formed.proofs.WellAgain.{all_mapped}
 use Rattle.iss_decided.specs.Verdicts.{do_parts_agree}
-use Rattle.iss_named.proofs.LegalStates.{legal_states}
-use Rattle.iss_sound.specs.Sound.{IsSoundState}
-use Rattle.iss_sound.proofs.SoundSteps.{nothing_sound, sound_after}
-use Rattle.iss_sound_cores.specs.Made.{ArePartsOfLeast, HavePartsOfLeast, is_of_least}
-use Rattle.iss_sound_cores.proofs.FormsAgain.{forms_again}
-use Rattle.iss_sound_cores.proofs.PartsToldAgain.{all_least}
+use Rattle.iss_least.specs.Least.{ArePartsOfLeast, is_of_least}
+use Rattle.iss_least.proofs.FormsAgain.{forms_again}
+use Rattle.iss_least.proofs.PartsToldAgain.{all_least}
 
 -- a step with a record in form keeps what a core keeps in form
 step_form : (s : CoreState) (r : Record) → is_record r ≡ true → IsInForm s → IsInForm (step core_keeper s r).world
@@ -48,15 +41,5 @@ least_after s r order parts least now =
     all_mapped (λ (e : Seen). is_of_least e.verdict) (seen_in w) w.accepted
     ∙ all_least w w.accepted (step_form (rebuilt s) r now.form (forms_again s order parts least)).decided
 
--- a sound state, with parts of at least the least amount
-abbrev IsSoundWithParts : State → Type 0
-IsSoundWithParts s = IsSoundState s × ArePartsOfLeast s
-
 pub nothing_least : ArePartsOfLeast no_state
 nothing_least = refl
-
-pub records_least : (rs : List Record) → IsLegal rs → AreRecords rs → length rs ≤ MOST_RECORDS → HavePartsOfLeast rs
-records_least rs legal form few =
-    let both : IsSoundWithParts no_state = (nothing_sound, nothing_least) in
-    subst ArePartsOfLeast (state_shown rs)
-    (legal_states IsSoundWithParts (λ s r formed h now. (sound_after s r h.0 now, least_after s r h.0.formed.order h.0.verdicts.parts h.1 now)) both rs legal form few).1

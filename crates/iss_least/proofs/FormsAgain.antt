@@ -35,9 +35,9 @@ use Rattle.iss_states.specs.Rebuilding.{ask_of_event, calls_marked, carried_name
 use Rattle.iss_states.proofs.Decided.{setting_decisions}
 use Rattle.iss_well_formed.proofs.GrownAgain.{settled_calls, settled_txns}
 use Rattle.iss_decided.specs.Verdicts.{do_parts_agree, goes_with_part, permits_this_part}
-use Rattle.iss_sound_cores.specs.Made.{ArePartsOfLeast, is_of_least}
-use Rattle.iss_sound_cores.proofs.AskedAgain.{IsAskOf, ask_is}
-use Rattle.iss_sound_cores.proofs.EventWeights.{form_of_event, part_most, stamp_of_event}
+use Rattle.iss_least.specs.Least.{ArePartsOfLeast, is_of_least}
+use Rattle.iss_least.proofs.AskedAgain.{IsAskOf, ask_is}
+use Rattle.iss_least.proofs.EventWeights.{form_of_event, part_most, stamp_of_event}
 
 -- lists ----
 
@@ -74,7 +74,7 @@ settled_times : (b : Bool) (c : CoreState) (i : Input) → is_in_form i ≡ true
 settled_times true c i form h = setting_times c i form h
 settled_times false c i form h = h
 
-settled_count : (b : Bool) (c : CoreState) (i : Input) → (cond b (after_setting c i) c).count ≡ c.count
+pub settled_count : (b : Bool) (c : CoreState) (i : Input) → (cond b (after_setting c i) c).count ≡ c.count
 settled_count false c i = refl
 settled_count true c (input.Move token (moved.Card card to)) = refl
 settled_count true c (input.Move token (moved.User user to)) = refl

@@ -21,7 +21,7 @@ use Rattle.iss_state.proofs.docket.Lists.{inside}
 use Rattle.iss_states.specs.Again.{amount_of_event}
 use Rattle.iss_states.specs.Rebuilding.{ask_of_event, calls_marked, how_of_mark, is_done, with_event, with_seen}
 use Rattle.iss_well_formed.proofs.GrownAgain.{settled_calls}
-use Rattle.iss_sound_cores.proofs.EventWeights.{asked_by, marked_ask, total_by}
+use Rattle.iss_least.proofs.EventWeights.{asked_by, marked_ask, total_by}
 
 -- An ask is of its event's amount and moment, and a transaction that it begins is of this moment and of the record at hand.
 pub record IsAskOf (f : Facts) (at : ℕ) (i : Input) (x : Ask) : Type 0 where

@@ -1,5 +1,5 @@
--- If what a core keeps that is made again is in form, so are the parts that its state tells.
-use Rattle.std.proofs.Common.{◌≡◌, ◌∙◌, ◌∷◌, ℕ, ap, find, List, [], nat_le, refl, sym, true}
+-- If what a core keeps is in form, each part that it tells is at least the least amount.
+use Rattle.std.proofs.Common.{◌≡◌, ◌∷◌, ℕ, find, List, [], nat_le, refl, true}
 use Rattle.std.specs.Prelude.{Option, Some, None, option_map}
 use Rattle.std.specs.List.{list_all}
 use Rattle.std.specs.Str.{bytes_eq}
@@ -7,18 +7,13 @@ use Rattle.std.proofs.lemmas.Bool.{and_parts}
 use Rattle.iss_model.specs.declared.decision.Verdict.{Verdict}
 use Rattle.iss_model.specs.declared.decision.Verdict.TheVariants as verdict
 use Rattle.iss_model.specs.declared.limits.TheConstants.{GREATEST_AMOUNT, LEAST_AMOUNT}
-use Rattle.iss_model.specs.declared.state.Seen.{Seen}
-use Rattle.iss_model.specs.declared.state.State.{State}
 use Rattle.iss_model.specs.rules.Facts.{Accepted, Decision, verdict_in}
 use Rattle.iss_model.specs.state.Cores.{CoreState}
 use Rattle.iss_model.proofs.Lists.{find_passes}
-use Rattle.iss_state.specs.InForm.{IsInForm, is_decided_in_form, is_verdict_in_form}
+use Rattle.iss_state.specs.InForm.{is_decided_in_form, is_verdict_in_form}
 use Rattle.iss_state.proofs.docket.Lists.{both_so}
-use Rattle.iss_states.specs.Rebuilding.{rebuilt}
 use Rattle.iss_states.specs.Showing.{seen_in, token_of_event}
-use Rattle.iss_well_formed.specs.Again.{AreOfTheirEvents}
-use Rattle.iss_well_formed.proofs.WellAgain.{all_mapped}
-use Rattle.iss_sound_cores.specs.Made.{ArePartsOfLeast, is_of_least}
+use Rattle.iss_least.specs.Least.{is_of_least}
 
 form_least : (v : Verdict) → is_verdict_in_form v ≡ true → is_of_least (Some v) ≡ true
 form_least verdict.Done h = refl
@@ -38,9 +33,3 @@ pub all_least : (c : CoreState) (xs : List Accepted) → list_all is_decided_in_
 all_least c [] h = refl
 all_least c (a ∷ xs) h =
     both_so (is_of_least (seen_in c a).verdict) (list_all (λ a. is_of_least (seen_in c a).verdict) xs) (told_least c.decisions (token_of_event a) h) (all_least c xs h)
-
-pub parts_of_least : (s : State) → AreOfTheirEvents s → IsInForm (rebuilt s) → ArePartsOfLeast s
-parts_of_least s own form =
-    ap (list_all (λ (e : Seen). is_of_least e.verdict)) (sym own.events)
-    ∙ all_mapped (λ (e : Seen). is_of_least e.verdict) (seen_in (rebuilt s)) (rebuilt s).accepted
-    ∙ all_least (rebuilt s) (rebuilt s).accepted form.decided
