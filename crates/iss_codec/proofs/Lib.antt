@@ -5,6 +5,8 @@ pub mod TakenChoices
 pub mod TakenInputs
 pub mod TakenAgain
 pub mod TakenRecords
+pub mod FirstPlaces
+pub mod TakenPlaces
 pub mod TakenLaws
 pub mod Codes
 pub mod Cuts

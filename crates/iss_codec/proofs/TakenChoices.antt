@@ -18,11 +18,11 @@ use Rattle.iss_codec.proofs.TakenFields.{by_byte, bind_some, either_way, IsSplit
 use Rattle.iss_codec.proofs.TakenParts.{card_state_field, user_state_field, mcc_field}
 
 -- a byte before what is split
-byte_before : (byte : ℕ) (bytes text rest : List ℕ) → IsSplit bytes text rest → IsSplit (byte ∷ bytes) (byte ∷ text) rest
+pub byte_before : (byte : ℕ) (bytes text rest : List ℕ) → IsSplit bytes text rest → IsSplit (byte ∷ bytes) (byte ∷ text) rest
 byte_before byte bytes text rest s = record { parts = ap (λ (t : List ℕ). byte ∷ t) s.parts; fits = s.fits }
 
 -- what is known of a part after its first byte, if that byte is this one
-at_byte : {A : Type 0} (text : A → List ℕ) (form : A → Bool) (byte wanted : ℕ) (bytes : List ℕ) (x : A × List ℕ) → nat_eq byte wanted ≡ true
+pub at_byte : {A : Type 0} (text : A → List ℕ) (form : A → Bool) (byte wanted : ℕ) (bytes : List ℕ) (x : A × List ℕ) → nat_eq byte wanted ≡ true
     → IsSplit (wanted ∷ bytes) (text x.0) x.1 × (form x.0 ≡ true) → IsSplit (byte ∷ bytes) (text x.0) x.1 × (form x.0 ≡ true)
 at_byte text form byte wanted bytes x is h =
     subst (λ (k : ℕ). IsSplit (k ∷ bytes) (text x.0) x.1 × (form x.0 ≡ true)) (sym (eqb-true _ _ is)) h

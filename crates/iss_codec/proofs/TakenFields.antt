@@ -1,6 +1,6 @@
 -- Each field that is taken was spelled so, and what is spelled so is taken, whatever follows it.
 use Rattle.std.proofs.Common.{◌≡◌, ℕ, suc, ◌<◌, ◌≤◌, Bool, true, false, cond, ltb, List, [], ◌∷◌, ◌++◌, length, take, drop, Option, Some, None, refl, sym, ap, subst, ◌∙◌, append_assoc, arith}
-use Rattle.std.proofs.lemmas.Bool.{ltb-false, le-ltb}
+use Rattle.std.proofs.lemmas.Bool.{ltb-true, ltb-false, lt-ltb, le-ltb}
 use Rattle.std.proofs.lemmas.Option.{same_Some}
 use Rattle.std.proofs.lemmas.List.{take_at, drop_at, take-append-drop, length-append, length-take}
 use Rattle.iss_model.specs.Tokens.{is_token}
@@ -98,6 +98,14 @@ number_again width limit wide n rest lt =
     let long : ltb (length (number_bytes width n ++ rest)) width ≡ false =
     le-ltb _ _ (omega (arith, length-append (number_bytes width n) rest)) in
     rw (long, wide.again n rest lt, drop_at (number_bytes width n) rest width size) refl
+
+-- a number, if it is below the limit of its width
+pub number_field : (width limit : ℕ) → IsWide width limit → IsField (take_number width) (number_bytes width) (λ n. ltb n limit)
+number_field width limit wide =
+    record {
+      takes = λ bytes x fits e. let t = number_takes width limit wide bytes x fits e in (t.0, lt-ltb _ _ t.1);
+      again = λ n rest h. number_again width limit wide n rest (ltb-true n limit h);
+    }
 
 -- a number of a form that keeps it below its limit
 pub formed : (width limit : ℕ) (form : ℕ → Bool) → IsWide width limit → ((n : ℕ) → form n ≡ true → n < limit)

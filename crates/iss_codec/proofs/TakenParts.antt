@@ -56,7 +56,7 @@ hold_time_field = formed 4 _ is_hold_time wide_4 (λ n h. omega (arith, leb-true
 
 -- things by their numbers
 
-found : {A : Type 0} (number : A → ℕ) (things : List A) (n : ℕ) (x : A) → of_number number things n ≡ Some x → n ≡ number x
+pub found : {A : Type 0} (number : A → ℕ) (things : List A) (n : ℕ) (x : A) → of_number number things n ≡ Some x → n ≡ number x
 found number [] n x e = absurd cc
 found number (thing ∷ things) n x e =
     either_way _ _ _ (Some x) (λ is e. sym (eqb-true _ _ is) ∙ ap number (same_Some thing x e)) (found number things n x) e
@@ -111,7 +111,7 @@ outcome_there outcome.Application h = refl
 outcome_there (outcome.Partial currency amount) h = absurd cc
 
 -- a thing that is found is of a form that all of them have
-found_formed : {A : Type 0} (form : A → Bool) (number : A → ℕ) (things : List A) (n : ℕ) (x : A) → list_all form things ≡ true → of_number number things n ≡ Some x → form x ≡ true
+pub found_formed : {A : Type 0} (form : A → Bool) (number : A → ℕ) (things : List A) (n : ℕ) (x : A) → list_all form things ≡ true → of_number number things n ≡ Some x → form x ≡ true
 found_formed form number [] n x h e = absurd cc
 found_formed form number (thing ∷ things) n x h e =
     let p = and_parts (form thing) (list_all form things) h in

@@ -3,3 +3,4 @@ pub mod Taking
 pub mod TakingRecords
 pub mod Readers
 pub mod Meanings
+pub mod Places

@@ -1,47 +1,48 @@
 //! Reading the parts of a move and of a control.
 ghost use Rattle.std.specs.Prelude.{◌≡◌};
 ghost use Rattle.iss_model.specs.Forms.{are_limits, may_count};
-ghost use Rattle.iss_codec.specs.Taking.{take_token, take_moved, take_association, take_scope, take_optional, take_offset, is_local};
+ghost use Rattle.iss_codec.specs.Taking.{take_moved, take_association, take_scope, take_optional, take_offset, is_local};
 ghost use Rattle.iss_codec.specs.TakingRecords.{take_limits};
 ghost use Rattle.iss_codec.specs.Readers.{taken_field};
 
 use crate::reader::Reader;
+use crate::tokens::TakesTokens;
 use iss_model::limits::{GREATEST_LIMIT, GREATEST_OFFSET, GREATEST_USAGE, LEAST_OFFSET};
 use iss_model::{Association, Moved, Scope, Window};
 
 impl Reader<'_> {
     #[tactic(auto, unfolding(crate::specs::Taking::take_moved, crate::specs::Taking::take_moved_card, crate::specs::Taking::take_moved_user))]
-    pub(crate) fn take_moved(&mut self) -> Option<Moved>
-        ensures { taken_field result self.new.bytes.now ≡ take_moved take_token self.old.bytes.now }
+    pub(crate) fn take_moved<N: TakesTokens>(&mut self, way: &N) -> Option<Moved>
+        ensures { taken_field result self.new.bytes.now ≡ take_moved (N.take_name way.now) self.old.bytes.now }
     {
         match self.take_byte()? {
-            1 => Some(Moved::Card(self.take_token()?, self.take_numbered()?)),
-            2 => Some(Moved::User(self.take_token()?, self.take_numbered()?)),
+            1 => Some(Moved::Card(way.take(self)?, self.take_numbered()?)),
+            2 => Some(Moved::User(way.take(self)?, self.take_numbered()?)),
             _ => None,
         }
     }
 
     #[tactic(auto, unfolding(crate::specs::Taking::take_association, crate::specs::Taking::take_named))]
-    pub(crate) fn take_association(&mut self) -> Option<Association>
-        ensures { taken_field result self.new.bytes.now ≡ take_association take_token self.old.bytes.now }
+    pub(crate) fn take_association<N: TakesTokens>(&mut self, way: &N) -> Option<Association>
+        ensures { taken_field result self.new.bytes.now ≡ take_association (N.take_name way.now) self.old.bytes.now }
     {
         match self.take_byte()? {
             0 => Some(Association::Anybody),
-            1 => Some(Association::User(self.take_token()?)),
-            2 => Some(Association::Product(self.take_token()?)),
+            1 => Some(Association::User(way.take(self)?)),
+            2 => Some(Association::Product(way.take(self)?)),
             _ => None,
         }
     }
 
     #[tactic(auto, unfolding(crate::specs::Taking::take_scope, crate::specs::Taking::take_mcc_scope, crate::specs::Taking::take_named))]
-    pub(crate) fn take_scope(&mut self) -> Option<Scope>
-        ensures { taken_field result self.new.bytes.now ≡ take_scope take_token self.old.bytes.now }
+    pub(crate) fn take_scope<N: TakesTokens>(&mut self, way: &N) -> Option<Scope>
+        ensures { taken_field result self.new.bytes.now ≡ take_scope (N.take_name way.now) self.old.bytes.now }
     {
         match self.take_byte()? {
             0 => Some(Scope::All),
             1 => Some(Scope::Mcc(self.take_mcc()?)),
-            2 => Some(Scope::Group(self.take_token()?)),
-            3 => Some(Scope::Mid(self.take_token()?)),
+            2 => Some(Scope::Group(way.take(self)?)),
+            3 => Some(Scope::Mid(way.take(self)?)),
             _ => None,
         }
     }

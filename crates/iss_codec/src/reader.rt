@@ -11,27 +11,31 @@ use iss_model::limits::{
 };
 use iss_model::{Currency, Numbered, Token};
 
-/// Bytes from which fields are taken. If a field isn't there, any of the bytes may be left.
+/// Bytes from which fields are taken, each from the start of what the one before it left. If a field isn't there, `None` is
+/// returned, and any of the bytes may be left. Contracts see the bytes that are left as `bytes`.
 #[derive(Drop)]
-pub(crate) struct Reader<'a> {
-    bytes: &'a [u8],
+pub struct Reader<'a> {
+    pub bytes: &'a [u8],
 }
 
 impl<'a> Reader<'a> {
-    pub(crate) fn new(bytes: &'a [u8]) -> Reader<'a>
+    /// A reader of all these bytes.
+    pub fn new(bytes: &'a [u8]) -> Reader<'a>
         ensures { result.bytes.now ≡ bytes.now }
     {
         Reader { bytes }
     }
 
-    pub(crate) fn is_at_end(&self) -> bool
+    /// Whether no byte is left.
+    pub fn is_at_end(&self) -> bool
         ensures { result ≡ (length self.now.bytes.now == 0) }
     {
         self.bytes.is_empty()
     }
 
+    /// The next byte.
     #[tactic(auto, unfolding(crate::specs::Taking::take_byte))]
-    pub(crate) fn take_byte(&mut self) -> Option<u8>
+    pub fn take_byte(&mut self) -> Option<u8>
         ensures { taken_field result self.new.bytes.now ≡ take_byte self.old.bytes.now }
     {
         let (byte, rest) = self.bytes.split_first()?;
@@ -52,8 +56,9 @@ impl<'a> Reader<'a> {
         Some(text)
     }
 
+    /// A number in two bytes, the highest first.
     #[tactic(auto, unfolding(crate::specs::Taking::take_number))]
-    pub(crate) fn take_u16(&mut self) -> Option<u16>
+    pub fn take_u16(&mut self) -> Option<u16>
         ensures { taken_field result self.new.bytes.now ≡ take_number 2 self.old.bytes.now }
     {
         if self.bytes.len() < 2 {
@@ -64,8 +69,9 @@ impl<'a> Reader<'a> {
         Some(number)
     }
 
+    /// A number in four bytes, the highest first.
     #[tactic(auto, unfolding(crate::specs::Taking::take_number))]
-    pub(crate) fn take_u32(&mut self) -> Option<u32>
+    pub fn take_u32(&mut self) -> Option<u32>
         ensures { taken_field result self.new.bytes.now ≡ take_number 4 self.old.bytes.now }
     {
         if self.bytes.len() < 4 {
@@ -76,8 +82,9 @@ impl<'a> Reader<'a> {
         Some(number)
     }
 
+    /// A number in eight bytes, the highest first.
     #[tactic(auto, unfolding(crate::specs::Taking::take_number))]
-    pub(crate) fn take_u64(&mut self) -> Option<u64>
+    pub fn take_u64(&mut self) -> Option<u64>
         ensures { taken_field result self.new.bytes.now ≡ take_number 8 self.old.bytes.now }
     {
         if self.bytes.len() < 8 {
@@ -88,8 +95,9 @@ impl<'a> Reader<'a> {
         Some(number)
     }
 
+    /// A time in milliseconds, in eight bytes. `None` if it is past the last stamp.
     #[tactic(auto, unfolding(crate::specs::Taking::take_formed))]
-    pub(crate) fn take_stamp(&mut self) -> Option<u64>
+    pub fn take_stamp(&mut self) -> Option<u64>
         ensures { taken_field result self.new.bytes.now ≡ take_stamp self.old.bytes.now }
     {
         let at = self.take_u64()?;
@@ -153,23 +161,26 @@ impl<'a> Reader<'a> {
             .then_some(hold_ms)
     }
 
+    /// A token after its length in one byte.
     #[tactic(auto, unfolding(crate::specs::Taking::take_token))]
-    pub(crate) fn take_token(&mut self) -> Option<Token>
+    pub fn take_token(&mut self) -> Option<Token>
         ensures { taken_field result self.new.bytes.now ≡ take_token self.old.bytes.now }
     {
         let len = self.take_byte()?;
         Token::new(self.take_bytes(len)?)
     }
 
+    /// A thing by its number, in one byte.
     #[tactic(auto, unfolding(crate::specs::Taking::take_numbered))]
-    pub(crate) fn take_numbered<T: Numbered>(&mut self) -> Option<T>
+    pub fn take_numbered<T: Numbered>(&mut self) -> Option<T>
         ensures { taken_field result self.new.bytes.now ≡ take_numbered T.numbered self.old.bytes.now }
     {
         T::from_number(self.take_byte()?)
     }
 
+    /// A currency by its numeric code, in two bytes.
     #[tactic(auto, unfolding(crate::specs::Taking::take_currency))]
-    pub(crate) fn take_currency(&mut self) -> Option<Currency>
+    pub fn take_currency(&mut self) -> Option<Currency>
         ensures { taken_field result self.new.bytes.now ≡ take_currency self.old.bytes.now }
     {
         Currency::from_number(self.take_u16()?)

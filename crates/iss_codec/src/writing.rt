@@ -2,28 +2,32 @@
 ghost use Rattle.std.specs.Prelude.{◌≡◌, ◌++◌, IsTrue, OnOk};
 ghost use Rattle.std.specs.List.{flat_map, list_all};
 ghost use Rattle.iss_model.specs.Tokens.{is_token};
-ghost use Rattle.iss_model.specs.Inputs.{with_length, flag_contents, moved_contents, association_contents};
-ghost use Rattle.iss_model.specs.texts.Spelling.{number_bytes, currency_bytes, mcc_bytes, limit_bytes, limits_bytes, offset_bytes, outcome_bytes, scope_bytes, mccs_bytes, operation_bytes, moved_token, association_tokens, scope_tokens};
+ghost use Rattle.iss_model.specs.Inputs.{with_length, flag_contents, spelled_moved, spelled_association};
+ghost use Rattle.iss_model.specs.texts.Spelling.{number_bytes, currency_bytes, mcc_bytes, limit_bytes, limits_bytes, offset_bytes, outcome_bytes, spelled_scope, mccs_bytes, spelled_operation, moved_token, association_tokens, scope_tokens};
 
+use crate::tokens::PutsTokens;
 use iss_model::{Association, Currency, Mccs, Moved, Numbered, Outcome, Scope, Token};
 use std::alloc::AllocError;
 
+/// Appends a number in eight bytes, the highest first.
 #[tactic(auto, unfolding(iss_model::specs::texts::Spelling::number_bytes))]
-pub(crate) fn put_u64(out: &mut Vec<u8>, number: u64) -> Result<(), AllocError>
+pub fn put_u64(out: &mut Vec<u8>, number: u64) -> Result<(), AllocError>
     ensures { OnOk result (out.new.items ≡ out.old.items ++ number_bytes 8 number) }
 {
     out.extend_from_slice(&number.to_be_bytes())
 }
 
+/// Appends a number in four bytes, the highest first.
 #[tactic(auto, unfolding(iss_model::specs::texts::Spelling::number_bytes))]
-pub(crate) fn put_u32(out: &mut Vec<u8>, number: u32) -> Result<(), AllocError>
+pub fn put_u32(out: &mut Vec<u8>, number: u32) -> Result<(), AllocError>
     ensures { OnOk result (out.new.items ≡ out.old.items ++ number_bytes 4 number) }
 {
     out.extend_from_slice(&number.to_be_bytes())
 }
 
+/// Appends a number in two bytes, the highest first.
 #[tactic(auto, unfolding(iss_model::specs::texts::Spelling::number_bytes))]
-pub(crate) fn put_u16(out: &mut Vec<u8>, number: u16) -> Result<(), AllocError>
+pub fn put_u16(out: &mut Vec<u8>, number: u16) -> Result<(), AllocError>
     ensures { OnOk result (out.new.items ≡ out.old.items ++ number_bytes 2 number) }
 {
     out.extend_from_slice(&number.to_be_bytes())
@@ -45,7 +49,8 @@ fn put_low_u16(out: &mut Vec<u8>, number: u64) -> Result<(), AllocError>
     out.extend_from_slice(&number.to_be_bytes()[6..])
 }
 
-pub(crate) fn put_token(out: &mut Vec<u8>, token: &Token) -> Result<(), AllocError>
+/// Appends a token after its length in one byte.
+pub fn put_token(out: &mut Vec<u8>, token: &Token) -> Result<(), AllocError>
     ensures spelled { OnOk result (out.new.items ≡ out.old.items ++ with_length token.now) }
     ensures token { OnOk result (IsTrue (is_token token.now)) }
 {
@@ -55,22 +60,29 @@ pub(crate) fn put_token(out: &mut Vec<u8>, token: &Token) -> Result<(), AllocErr
 }
 
 /// The two tokens that an event begins with: its own, and that of what it is about.
-pub(crate) fn put_event(out: &mut Vec<u8>, token: &Token, about: &Token) -> Result<(), AllocError>
-    ensures spelled { OnOk result (out.new.items ≡ out.old.items ++ (with_length token.now ++ with_length about.now)) }
+pub(crate) fn put_event<W: PutsTokens>(
+    out: &mut Vec<u8>,
+    way: &W,
+    token: &Token,
+    about: &Token,
+) -> Result<(), AllocError>
+    ensures spelled { OnOk result (out.new.items ≡ out.old.items ++ (W.token_bytes way.now token.now ++ W.token_bytes way.now about.now)) }
     ensures token { OnOk result (IsTrue (is_token token.now)) }
     ensures about { OnOk result (IsTrue (is_token about.now)) }
 {
-    put_token(out, token)?;
-    put_token(out, about)
+    way.put(out, token)?;
+    way.put(out, about)
 }
 
-pub(crate) fn put_flag(out: &mut Vec<u8>, on: bool) -> Result<(), AllocError>
+/// Appends 1 for true and 0 for false, in one byte.
+pub fn put_flag(out: &mut Vec<u8>, on: bool) -> Result<(), AllocError>
     ensures { OnOk result (out.new.items ≡ out.old.items ++ flag_contents on) }
 {
     Ok(out.push(u8::from(on))?)
 }
 
-pub(crate) fn put_currency(out: &mut Vec<u8>, currency: Currency) -> Result<(), AllocError>
+/// Appends a currency by its numeric code, in two bytes.
+pub fn put_currency(out: &mut Vec<u8>, currency: Currency) -> Result<(), AllocError>
     ensures { OnOk result (out.new.items ≡ out.old.items ++ currency_bytes currency) }
 {
     put_u16(out, currency.number())
@@ -122,46 +134,55 @@ fn put_usage_limit(out: &mut Vec<u8>, limit: Option<u32>) -> Result<(), AllocErr
     }
 }
 
-pub(crate) fn put_moved(out: &mut Vec<u8>, who: &Moved) -> Result<(), AllocError>
-    ensures spelled { OnOk result (out.new.items ≡ out.old.items ++ moved_contents who.now) }
+pub(crate) fn put_moved<W: PutsTokens>(
+    out: &mut Vec<u8>,
+    way: &W,
+    who: &Moved,
+) -> Result<(), AllocError>
+    ensures spelled { OnOk result (out.new.items ≡ out.old.items ++ spelled_moved (W.token_bytes way.now) who.now) }
     ensures token { OnOk result (IsTrue (is_token (moved_token who.now))) }
 {
     match who {
         Moved::Card(card, to) => {
             out.push(1)?;
-            put_token(out, card)?;
+            way.put(out, card)?;
             Ok(out.push(to.number())?)
         }
         Moved::User(user, to) => {
             out.push(2)?;
-            put_token(out, user)?;
+            way.put(out, user)?;
             Ok(out.push(to.number())?)
         }
     }
 }
 
-pub(crate) fn put_association(
+pub(crate) fn put_association<W: PutsTokens>(
     out: &mut Vec<u8>,
+    way: &W,
     association: &Association,
 ) -> Result<(), AllocError>
-    ensures spelled { OnOk result (out.new.items ≡ out.old.items ++ association_contents association.now) }
+    ensures spelled { OnOk result (out.new.items ≡ out.old.items ++ spelled_association (W.token_bytes way.now) association.now) }
     ensures tokens { OnOk result (IsTrue (list_all is_token (association_tokens association.now))) }
 {
     match association {
         Association::Anybody => Ok(out.push(0)?),
         Association::User(user) => {
             out.push(1)?;
-            put_token(out, user)
+            way.put(out, user)
         }
         Association::Product(product) => {
             out.push(2)?;
-            put_token(out, product)
+            way.put(out, product)
         }
     }
 }
 
-pub(crate) fn put_scope(out: &mut Vec<u8>, scope: &Scope) -> Result<(), AllocError>
-    ensures spelled { OnOk result (out.new.items ≡ out.old.items ++ scope_bytes scope.now) }
+pub(crate) fn put_scope<W: PutsTokens>(
+    out: &mut Vec<u8>,
+    way: &W,
+    scope: &Scope,
+) -> Result<(), AllocError>
+    ensures spelled { OnOk result (out.new.items ≡ out.old.items ++ spelled_scope (W.token_bytes way.now) scope.now) }
     ensures tokens { OnOk result (IsTrue (list_all is_token (scope_tokens scope.now))) }
 {
     match scope {
@@ -172,11 +193,11 @@ pub(crate) fn put_scope(out: &mut Vec<u8>, scope: &Scope) -> Result<(), AllocErr
         }
         Scope::Group(group) => {
             out.push(2)?;
-            put_token(out, group)
+            way.put(out, group)
         }
         Scope::Mid(mid) => {
             out.push(3)?;
-            put_token(out, mid)
+            way.put(out, mid)
         }
     }
 }
@@ -214,18 +235,19 @@ fn put_codes(out: &mut Vec<u8>, codes: &[u16]) -> Result<(), AllocError>
 }
 
 /// The fields that every operation begins with: its token, whom or what it is about, and its amount.
-pub(crate) fn put_operation(
+pub(crate) fn put_operation<W: PutsTokens>(
     out: &mut Vec<u8>,
+    way: &W,
     token: &Token,
     about: &Token,
     currency: Currency,
     amount: u64,
 ) -> Result<(), AllocError>
-    ensures spelled { OnOk result (out.new.items ≡ out.old.items ++ operation_bytes token.now about.now currency amount) }
+    ensures spelled { OnOk result (out.new.items ≡ out.old.items ++ spelled_operation (W.token_bytes way.now) token.now about.now currency amount) }
     ensures token { OnOk result (IsTrue (is_token token.now)) }
     ensures about { OnOk result (IsTrue (is_token about.now)) }
 {
-    put_event(out, token, about)?;
+    put_event(out, way, token, about)?;
     put_currency(out, currency)?;
     put_u64(out, amount)
 }

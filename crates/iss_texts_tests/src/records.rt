@@ -1,7 +1,8 @@
 //! Lines of all types with the bytes of their records, and bytes that are no records.
-use iss_codec::{decode, encode};
+use iss_codec::{decode, decode_in, encode, encode_in, tokens_of};
 use iss_event::{FormFault, LineFault, Mode, read_line};
 use iss_model::Record;
+use std::alloc::{AllocError, Global};
 use std::test::Fail;
 
 /// The stamp of a record whose line has none.
@@ -78,6 +79,34 @@ fn lines_and_the_bytes_of_their_records(rt: HostRuntime) -> Result<(), Fail> {
         let spelled = encode(rt.alloc(), &record)?;
         let spelled = hex::encode(rt.alloc(), spelled.as_slice())?;
         assert!(rt; spelled.as_str() == bytes, "{text}");
+    }
+    Ok(())
+}
+
+/// Whether the record that these bytes spell is read again from its spelling with places in the table of its tokens. A byte
+/// after that spelling is left.
+fn is_read_by_places(alloc: Global, bytes: &[u8]) -> Result<bool, AllocError> {
+    let Some(record) = decode(alloc, bytes)? else {
+        return Ok(false);
+    };
+    let tokens = tokens_of(alloc, &record)?;
+    let mut placed = encode_in(alloc, &record, &tokens)?;
+    let length = placed.len();
+    placed.push(0)?;
+    match decode_in(alloc, &placed, &tokens)? {
+        Some((again, taken)) => {
+            Ok(taken == length && encode(alloc, &again)?.as_slice() == bytes)
+        }
+        None => Ok(false),
+    }
+}
+
+#[test]
+fn records_with_their_tokens_as_places(rt: HostRuntime) -> Result<(), Fail> {
+    for row in RECORDS.split('\n') {
+        let (text, bytes) = row.split_once(' ').ok_or("no bytes")?;
+        let bytes = hex::decode(rt.alloc(), bytes.as_bytes())?;
+        assert!(rt; is_read_by_places(rt.alloc(), &bytes)?, "{text}");
     }
     Ok(())
 }
