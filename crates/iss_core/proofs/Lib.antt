@@ -10,4 +10,6 @@ pub mod DueNames
 pub mod Stepped
 pub mod Clearings
 pub mod Endings
+pub mod SettingsAgain
+pub mod CoreAgain
 mod ShownParts

@@ -12,3 +12,4 @@ pub mod Entering
 pub mod Sound
 pub mod Sweeps
 pub mod Showing
+pub mod Restoring

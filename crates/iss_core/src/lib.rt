@@ -5,7 +5,10 @@
 //! A record's entries are made once, as one list, by what mirrors the rules, and each entry is entered once (`entering`).
 //! First come those of each due thing (`due`), and then the record's own (`entries`).
 //!
-//! It may cite `iss_model`, the laws of `iss_agreement` and `iss_state`, and its parts.
+//! A core is made again from what it keeps as lists (`restoring`): settings are judged and taken up from the events
+//! (`settings_again`), and all other parts are made again by crates below.
+//!
+//! It may cite `iss_model`, its parts, the crates that make these again, and definitions and laws of the crates of laws.
 //! It must not cite bytes: lines, texts, the outside.
 #![tactic(auto)]
 
@@ -22,7 +25,9 @@ mod operations;
 mod pieces;
 mod purchases;
 mod reasons;
+mod restoring;
 mod settings;
+mod settings_again;
 mod showing;
 mod state;
 mod stepping;
