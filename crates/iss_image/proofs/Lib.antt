@@ -1,0 +1,10 @@
+pub mod Steps
+pub mod AlongPlaces
+pub mod MarkFields
+pub mod VerdictFields
+pub mod SeenFields
+pub mod TokensFirst
+pub mod StateFields
+pub mod Firsts
+pub mod ReadAgain
+pub mod NoNotices

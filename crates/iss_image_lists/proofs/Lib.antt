@@ -1,0 +1,11 @@
+pub mod Steps
+pub mod ListFields
+pub mod PartFields
+pub mod TxnFields
+pub mod BalanceFields
+pub mod CutRuns
+pub mod CounterFields
+pub mod NoticeFields
+pub mod OneByOne
+pub mod SpelledSo
+pub mod TakenRuns

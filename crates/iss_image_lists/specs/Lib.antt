@@ -1,0 +1,9 @@
+pub mod Spelling
+pub mod Runs
+pub mod Taking
+pub mod Forms
+pub mod Readers
+pub mod Along
+pub mod Holding
+pub mod Meanings
+pub mod ByPlace
