@@ -1,11 +1,12 @@
 # Needs the command rt, which proves and builds, on the PATH: `make doctor` tells what else.
 program := crates/iss_cli/out/iss_cli
 first := crates/iss_cli/stdin
+gateway := crates/issuer_gateway/out/issuer_gateway
 sources := crates.txt HANDLES \
     $(shell find crates -name out -prune -o \( -name '*.rt' -o -name '*.antt' \) -print)
 
 .DEFAULT_GOAL := issuer
-.PHONY: help issuer run crate check try test checks mutants bench twins map doctor
+.PHONY: help issuer gateway run crate check try test checks mutants bench twins map doctor
 
 help: ## lists these targets
 	@awk -F ':.*## ' '/^[a-z]+:.*## / { printf "make %-8s %s\n", $$1, $$2 }' Makefile
@@ -19,6 +20,16 @@ build/issuer: $(program)
 $(program): $(sources)
 	cd crates/iss_cli && rt run -- dry </dev/null
 	touch $(program)
+
+gateway: build/issuer_gateway ## proves the reference gateway likewise, and leaves it at build/issuer_gateway
+
+build/issuer_gateway: $(gateway)
+	install -D -m 755 $(gateway) build/issuer_gateway
+
+# Without words it tells how it is called, with status 2.
+$(gateway): $(sources)
+	cd crates/issuer_gateway && rm -f out/issuer_gateway && { rt run || [ -x out/issuer_gateway ]; }
+	touch $(gateway)
 
 run: ## shows the replies to the first example: at once if the proved program is up to date, else, in minutes, by a build that is not proved
 	@if $(MAKE) -qs $(program); then \

@@ -1,6 +1,8 @@
-# What the checks of serving begin with: the program, ports that nobody listens on, a program that serves and a gateway beside it.
+# What the checks of serving begin with: the program, ports that nobody listens on, a program that serves and a gateway beside it, and
+# where the reference gateway is that rt ci left.
 . "$(dirname "${BASH_SOURCE[0]}")/program.sh"
 
+reference=crates/issuer_gateway/out/issuer_gateway
 device=$room/device
 server=
 gateway=
@@ -27,13 +29,13 @@ some_port() {
     echo "$port"
 }
 
-# listening PORT WHAT: somebody does so within some seconds.
+# listening PORT WHAT: somebody does so within a minute.
 listening() {
-    for _ in {1..500}; do
-        ! listens "$1" || return 0
+    local until=$((SECONDS + 60))
+    until listens "$1"; do
+        [ "$SECONDS" -lt "$until" ] || fail "$2: nobody listens on port $1"
         sleep 0.01
     done
-    fail "$2: nobody listens on port $1"
 }
 
 # built NAME: the program in C of this name is in $room, where this machine can build it.

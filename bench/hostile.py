@@ -17,7 +17,7 @@ import threading
 import time
 from dataclasses import dataclass
 
-from peers import Client, Gateway, Issuer, crowd, ended, full_gateway, lost_of, page_gateway, post, post_all, purchase, request
+from peers import Client, Gateway, Issuer, crowd, ended, full_gateway, lost_of, plain_gateway, post, post_all, purchase, request
 from peers import now, rest, seconds_of, until
 
 # After how many seconds of silence a client is closed, and a link to the gateway; and by how much that may be late.
@@ -239,14 +239,14 @@ def reached_again():
 def dials():
     """A hundred purchases at once, to a gateway that takes one connection at a time and has a short queue."""
     for stopped in 0, 0.5:
-        with Issuer() as issuer, page_gateway(issuer.gateway) as gateway:
+        with Issuer() as issuer, plain_gateway(issuer.gateway) as gateway:
             issuer.serve()
             if stopped:
                 gateway.send_signal(signal.SIGSTOP)
                 threading.Timer(stopped, gateway.send_signal, [signal.SIGCONT]).start()
             clients = post_all(issuer.port, [purchase(f"e{number}", "asks") for number in range(100)], 30)
         lost, told = lost_of(clients)
-        which = f"the page's gateway, which is stopped for {stopped} s" if stopped else "the page's gateway"
+        which = f"a plain gateway, which is stopped for {stopped} s" if stopped else "a plain gateway"
         yield Row(f"of 100 purchases at once, to {which}, these are lost", told, "0", lost == 0)
         longest = max((client.took for client in clients if client.took is not None), default=None)
         yield Row("the last of them is answered after", seconds_of(longest, 30))
@@ -264,21 +264,21 @@ def all_sent(issuer, seconds):
 
 
 def calls_again():
-    """A restart with 500 open calls, to the page's gateway."""
+    """A restart with 500 open calls, to a plain gateway."""
     lines = [purchase(f"e{number}", "asks", at=now()) for number in range(500)]
-    with Issuer(lines=lines) as issuer, page_gateway(issuer.gateway):
+    with Issuer(lines=lines) as issuer, plain_gateway(issuer.gateway):
         issuer.serve()
         took = all_sent(issuer, 70)
         lost, told = lost_of([post(issuer.port, line) for line in lines])
-    yield Row("of 500 open calls at a restart, to the page's gateway, these are lost", told, "0", lost == 0)
+    yield Row("of 500 open calls at a restart, to a plain gateway, these are lost", told, "0", lost == 0)
     yield Row("the last of them is closed after", f"{took:.1f} s")
 
 
 def notices_again():
-    """Restarts with 2,000 notices that wait, to the page's gateway."""
+    """Restarts with 2,000 notices that wait, to a plain gateway."""
     lines = [purchase(f"e{number}", "asks") for number in range(2000)]
     lines += [f'{{"type":"answer","call":{number},"outcome":"CONNECTION"}}' for number in range(1, 2001)]
-    with Issuer(lines=lines) as issuer, page_gateway(issuer.gateway):
+    with Issuer(lines=lines) as issuer, plain_gateway(issuer.gateway):
         left, starts, came = issuer.notices(), [], []
         while left > 0 and len(starts) < 4:
             issuer.serve()
@@ -286,7 +286,7 @@ def notices_again():
             issuer.stop()
             left = issuer.notices()
             came.append(2000 - left)
-    yield Row("of 2,000 notices that wait, to the page's gateway, the first start brings", str(came[0]), "2000", came[0] == 2000)
+    yield Row("of 2,000 notices that wait, to a plain gateway, the first start brings", str(came[0]), "2000", came[0] == 2000)
     yield Row("after that start nothing more is under way after", f"{starts[0]:.1f} s")
     yield Row(f"after {len(starts)} starts it has brought", str(came[-1]))
 

@@ -14,10 +14,10 @@ import tempfile
 import threading
 import time
 from collections import Counter
+from http.server import BaseHTTPRequestHandler, HTTPServer
 from pathlib import Path
 
 HOST = "127.0.0.1"
-PAGE = Path(__file__).resolve().parent.parent / "docs" / "SERVING.md"
 
 
 def purchase(event, card="own", amount="0.01", **more):
@@ -310,11 +310,27 @@ class Gateway:
             key.fileobj.close()
 
 
+class Funds(BaseHTTPRequestHandler):
+    """Funds what is asked for, and acknowledges each notice."""
+
+    def do_POST(self):
+        asked = json.loads(self.rfile.read(int(self.headers["Content-Length"])))
+        told = json.dumps({name: asked[name] for name in ("token", "amount") if name in asked}).encode()
+        self.send_response(200)
+        self.send_header("Content-Length", str(len(told)))
+        self.end_headers()
+        self.wfile.write(told)
+
+
+def serve_plainly(port):
+    HTTPServer((HOST, port), Funds).serve_forever()
+
+
 @contextlib.contextmanager
-def page_gateway(port):
-    """The gateway of docs/SERVING.md, as it stands there but for its port: it takes one connection at a time, and five may queue."""
-    code = PAGE.read_text().partition("python3 - <<'END' &\n")[2].partition("\nEND\n")[0]
-    process = subprocess.Popen([sys.executable, "-c", code.replace("8081", str(port))], stderr=subprocess.DEVNULL)
+def plain_gateway(port):
+    """A gateway of Python's `HTTPServer`, a process of its own: it takes one connection at a time, and five may queue."""
+    code = f"import peers; peers.serve_plainly({port})"
+    process = subprocess.Popen([sys.executable, "-B", "-c", code], cwd=Path(__file__).parent, stderr=subprocess.DEVNULL)
     try:
         # The system's list of sockets tells that it listens. To connect would take a place in its queue.
         if until(lambda: f"0100007F:{port:04X} 00000000:0000 0A" in Path("/proc/net/tcp").read_text(), 20) is None:

@@ -4,6 +4,7 @@
 # finish, both sides reconcile: each event is told what every client was told, and nothing is funded twice.
 . "$(dirname "$0")/../serving.sh"
 
+[ -x "$reference" ] || make gateway >&2
 if ! command -v python3 >/dev/null; then
     echo "$0: no python3 here: no example gateway or client is run"
     exit 0
@@ -234,6 +235,7 @@ page() {
     status=0
     mkdir -p "$room/page/build"
     cp "$issuer" "$room/page/build/issuer"
+    cp "$reference" "$room/page/build/issuer_gateway"
     ln -s "$PWD/examples" "$room/page/examples"
     awk '/^## / { is_ours = /^## (A gateway and clients|Reconciliation)/ } /^```/ { inside = !inside; next } inside && is_ours' \
         docs/RECIPES.md | sed "s/8080/$port/g; s/8081/$gateway_port/g" >"$room/page/lines"
@@ -245,6 +247,12 @@ page() {
     awaited 'the end of the page' is_free "$gateway_port"
     [ "$status" = 0 ] || fail "docs/RECIPES.md: status $status, and it said '$(cat "$room/page/said" "$room/page/out")'"
     diff - "$room/page/out" >&2 <<'LINES' || fail "docs/RECIPES.md: it was told otherwise, and said '$(cat "$room/page/said")'"
+{"event":"p1","reply":"done"}
+{"event":"t1","reply":"done"}
+{"event":"t2","reply":"done"}
+{"event":"a1","reply":"approved"}
+{"event":"i1","reason":"GATEWAY_DECLINED","reply":"declined"}
+{"event":"k1","reply":"done"}
 {"event":"p1","reply":"done"}
 {"event":"t1","reply":"done"}
 {"event":"t2","reply":"done"}

@@ -2,7 +2,7 @@
 # What strangers, broken gateways and a wrong clock do to a program that serves (bench/hostile.py). Clients that say nothing are let go
 # after 30 seconds; those that wait are not, nor those whose request comes in pieces or within a slow sync. An event beside 800 silent
 # clients costs at most twice what it costs alone. With few handles neither silent clients nor unanswered calls lock out later calls. A
-# hundred purchases at once to the gateway of docs/SERVING.md are all funded, also if it stops for a moment. Answers that came in time
+# hundred purchases at once to a gateway of Python's HTTPServer are all funded, also if it stops for a moment. Answers that came in time
 # are taken in time after a stop. A clock that is ahead for a moment expires nothing and moves no deadline; one that stays ahead is
 # believed. A run ends though its calls don't go out. Formatting a file that is there makes its name last, also if it has no bytes.
 . "$(dirname "$0")/../program.sh"

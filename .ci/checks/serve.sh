@@ -1,8 +1,10 @@
 #!/usr/bin/env bash
 # Serving real clients: the lines of docs/SERVING.md as they stand there, requests whole, in pieces and with faults, each kind of gateway,
 # what is asked again after a kill, and how a run ends. Clients are curl, where there is one, and bash; the gateway is bench/gateway.c,
-# where there is gcc.
+# where there is gcc, and on the page the reference gateway.
 . "$(dirname "$0")/../serving.sh"
+
+[ -x "$reference" ] || make gateway >&2
 
 disk='issuer: device is not an issuer device'
 has_curl=$(command -v curl || true)
@@ -92,6 +94,7 @@ page() {
     local shell
     mkdir -p "$room/page/build"
     cp "$issuer" "$room/page/build/issuer"
+    cp "$reference" "$room/page/build/issuer_gateway"
     awk '/^```$/ { inside = !inside; next } inside' docs/SERVING.md >"$room/page/lines"
     if listens 8080 || listens 8081; then
         sed -i "s/8080/$port/g; s/8081/$gateway_port/g" "$room/page/lines"
@@ -312,7 +315,7 @@ ends() {
     exec {peer}>&-
 }
 
-if [ -n "$has_curl" ] && command -v python3 >/dev/null; then
+if [ -n "$has_curl" ]; then
     page
 fi
 formatted 1000000

@@ -43,7 +43,7 @@ pub record AttendsToEnd {G : Type 0} (manner : Manner G) (s : Attendance G) (ite
   pub did : done ≡ actions_of (all_steps manner s items)
   pub sent : (ch : ℕ) → sent_on ch b.trace ≡ sent_on ch a.trace ++ sent_on ch (actions_of (attendance_steps manner s items))
 
--- What a run did that began with this standing, and with so many waits to make. What it heard fits, and it waited at most so often. What it
+-- What a run did that began with this standing and could wait `turns` times. What it heard fits, and it made at most `turns` waits. What it
 -- did follows from what it heard, or is a first part of that. If it was done (`over`), it came to its end.
 pub record AttendRun {G : Type 0} (manner : Manner G) (first : G) (turns : ℕ) (over : Type 0) (a b : Outer) : Type 0 where
   pub items : List HeardItem
@@ -57,6 +57,6 @@ pub record AttendRun {G : Type 0} (manner : Manner G) (first : G) (turns : ℕ) 
   pub cut : actions_of (all_steps manner (first_attendance first turns) items) ≡ done ++ undone
   pub whole : over → AttendsToEnd manner (first_attendance first turns) items done a.world b.world
 
--- What a run did on an edge that began with this standing, and with so many waits to make.
+-- What a run did on an edge that began with this standing and could wait `turns` times.
 abbrev pub RunsOn : {G E : Type 0} → (E → Option World) → (E → Option (List Answered)) → Manner G → G → ℕ → Type 0 → E → E → Type 0
 RunsOn told heard manner first turns over a b = ToldBoth told heard (AttendRun manner first turns over) a b

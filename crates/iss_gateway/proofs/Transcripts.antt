@@ -1,4 +1,4 @@
--- What the reference gateway gave was given rightly, and its total is that of what was said.
+-- What a gateway gave was given rightly, whatever its wishes, and its total is that of what was said.
 use Rattle.std.proofs.Common.{◌≡◌, ℕ, ◌<◌, ◌≤◌, ◌==◌, ℤ, pos, ◌+ℤ◌, ◌-ℤ◌, Bool, true, false, not, cond, ◌&&◌, ◌||◌, nat_le, List, [], ◌∷◌, ◌++◌, refl, sym, ap, ap₂, subst, ◌∙◌, inl, inr, arith}
 use Rattle.std.proofs.lemmas.Bool.{and_parts}
 use Rattle.std.proofs.lemmas.Bool.Decides.{nat_tests}
@@ -15,10 +15,10 @@ use Rattle.iss_gateway.specs.declared.message.Message.{Message}
 use Rattle.iss_gateway.specs.declared.message.Message.TheVariants as message
 use Rattle.iss_gateway.specs.declared.message.Given.{Given}
 use Rattle.iss_gateway.specs.declared.message.Given.TheVariants.{Acked}
-use Rattle.iss_gateway.specs.Books.{Books, promise_of, is_noted, is_token_of, is_voided, funded_first, with_promise, with_note, heard, given_of, given_by, given_after, sum_over, amount_or_none, standing, given_back}
+use Rattle.iss_gateway.specs.Books.{Books, promise_of, is_noted, is_token_of, is_voided, funded_first, with_promise, with_note, heard, given_of, given_by, given_after, sum_over, amount_or_none, standing, given_back, total}
 use Rattle.iss_gateway.specs.Rules.{wish_for}
-use Rattle.iss_gateway.specs.Honest.{Said, IsGivenRightly, IsHonest, IsRightly, MayGive, first_given, was_noted, was_voided, amount_given, stands_after, returned_after, all_standing, all_returned}
-use Rattle.iss_gateway.specs.Laws.{reference_after, said_over, IsHonestOver}
+use Rattle.iss_gateway.specs.Honest.{Said, IsGivenRightly, IsHonest, IsRightly, MayGive, first_given, was_noted, was_voided, amount_given, stands_after, returned_after, all_standing, all_returned, total_said}
+use Rattle.iss_gateway.specs.Laws.{Wished, books_at, said_at, IsHonestAt, reference_after, said_over, IsHonestOver}
 use Rattle.iss_gateway.proofs.Owed.{any_more, sum_more}
 
 -- what a promise gives
@@ -178,12 +178,11 @@ said_rightly wish before b (message.Note number token currency user gateway) tel
 
 -- ---- all that was said
 
-all_rightly : (most limit : ℕ) (ms : List Message) → IsHonest (said_over most limit ms) × Tells (said_over most limit ms) (reference_after most limit ms).books
-all_rightly most limit [] = (tt, record { first = λ token. refl; noted = λ number. refl; voided = λ token. refl })
-all_rightly most limit (m ∷ before) =
-    let r = reference_after most limit before in
-    let so = all_rightly most limit before in
-    let both = said_rightly (wish_for r m) (said_over most limit before) r.books m so.1 in
+all_rightly : (ms : List Wished) → IsHonest (said_at ms) × Tells (said_at ms) (books_at ms)
+all_rightly [] = (tt, record { first = λ token. refl; noted = λ number. refl; voided = λ token. refl })
+all_rightly (x ∷ before) =
+    let so = all_rightly before in
+    let both = said_rightly x.wish (said_at before) (books_at before) x.message so.1 in
     ((both.0, so.0), both.1)
 
 -- ---- totals
@@ -256,47 +255,75 @@ same_notes : (b : Books) (p : Promise) (o : Option Promise) → (with_promise b 
 same_notes b p None = refl
 same_notes b p (Some q) = refl
 
-all_stand : (most limit : ℕ) (c : Currency) (all : List Said) (ms : List Message)
-    → sum_over (stands_in c all) (reference_after most limit ms).books.promises ≡ all_standing c all (said_over most limit ms)
-all_stand most limit c all [] = refl
-all_stand most limit c all (message.Ask token amount currency user partial ∷ before) =
-    let r = reference_after most limit before in
-    asked_standing (wish_for r (message.Ask token amount currency user partial)) c all (said_over most limit before) r.books token amount currency user partial (promise_of r.books token) refl
-    (all_rightly most limit before).1 (all_stand most limit c all before)
-all_stand most limit c all (message.Note number token currency user gateway ∷ before) =
-    let b = (reference_after most limit before).books in
+stand_on : (wish : ℕ) (c : Currency) (all before : List Said) (b : Books) (m : Message) → Tells before b
+    → sum_over (stands_in c all) b.promises ≡ all_standing c all before
+    → sum_over (stands_in c all) (heard wish b m).promises
+    ≡ stands_after c all before m (given_after (heard wish b m) m) +ℤ all_standing c all before
+stand_on wish c all before b (message.Ask token amount currency user partial) tells h =
+    asked_standing wish c all before b token amount currency user partial (promise_of b token) refl tells h
+stand_on wish c all before b (message.Note number token currency user gateway) tells h =
     ap (sum_over (stands_in c all)) (same_promises b (record { number = number; token = token; currency = currency; user = user; gateway = gateway }) (is_noted b number))
-    ∙ all_stand most limit c all before ∙ none_more (all_standing c all (said_over most limit before))
+    ∙ h ∙ none_more (all_standing c all before)
 
-all_return : (most limit : ℕ) (c : Currency) (ms : List Message) → sum_over (given_back c) (reference_after most limit ms).books.notes ≡ all_returned c (said_over most limit ms)
-all_return most limit c [] = refl
-all_return most limit c (message.Ask token amount currency user partial ∷ before) =
-    let r = reference_after most limit before in
+return_on : (wish : ℕ) (c : Currency) (before : List Said) (b : Books) (m : Message) → Tells before b
+    → sum_over (given_back c) b.notes ≡ all_returned c before
+    → sum_over (given_back c) (heard wish b m).notes ≡ returned_after c before m +ℤ all_returned c before
+return_on wish c before b (message.Ask token amount currency user partial) tells h =
     ap (sum_over (given_back c))
-    (same_notes r.books
-    (record { token = token; funded = funded_first (wish_for r (message.Ask token amount currency user partial)) (is_voided r.books token) amount partial; currency = currency; user = user })
-    (promise_of r.books token))
-    ∙ all_return most limit c before ∙ none_more (all_returned c (said_over most limit before))
-all_return most limit c (message.Note number token currency user gateway ∷ before) =
-    let b = (reference_after most limit before).books in
-    noted_returned c (said_over most limit before) b (record { number = number; token = token; currency = currency; user = user; gateway = gateway }) (is_noted b number) refl
-    (all_rightly most limit before).1 (all_return most limit c before)
+    (same_notes b (record { token = token; funded = funded_first wish (is_voided b token) amount partial; currency = currency; user = user }) (promise_of b token))
+    ∙ h ∙ none_more (all_returned c before)
+return_on wish c before b (message.Note number token currency user gateway) tells h =
+    noted_returned c before b (record { number = number; token = token; currency = currency; user = user; gateway = gateway }) (is_noted b number) refl tells h
+
+all_stand : (c : Currency) (all : List Said) (ms : List Wished) → sum_over (stands_in c all) (books_at ms).promises ≡ all_standing c all (said_at ms)
+all_stand c all [] = refl
+all_stand c all (x ∷ before) = stand_on x.wish c all (said_at before) (books_at before) x.message (all_rightly before).1 (all_stand c all before)
+
+all_return : (c : Currency) (ms : List Wished) → sum_over (given_back c) (books_at ms).notes ≡ all_returned c (said_at ms)
+all_return c [] = refl
+all_return c (x ∷ before) = return_on x.wish c (said_at before) (books_at before) x.message (all_rightly before).1 (all_return c before)
 
 each_same : {A : Type 0} (v w : A → ℤ) (xs : List A) → ((x : A) → v x ≡ w x) → sum_over v xs ≡ sum_over w xs
 each_same v w [] same = refl
 each_same v w (x ∷ xs) same = ap₂ (λ (a z : ℤ). a +ℤ z) (same x) (each_same v w xs same)
 
-pub honest_over : (most limit : ℕ) (ms : List Message) → IsHonestOver most limit ms
-honest_over most limit ms =
-    let all = said_over most limit ms in
-    let b = (reference_after most limit ms).books in
-    let so = all_rightly most limit ms in
+pub honest_at : (ms : List Wished) → IsHonestAt ms
+honest_at ms =
+    let all = said_at ms in
+    let b = books_at ms in
+    let so = all_rightly ms in
     record {
       honest = so.0;
       total_is = λ c.
           ap₂ (λ (a z : ℤ). a -ℤ z)
           (each_same (standing b c) (stands_in c all) b.promises
           (λ p. ap (λ (v : Bool). cond (same_currency p.currency c && not v) (amount_or_none p.funded) (pos 0)) (sym (so.1.voided p.token)))
-          ∙ all_stand most limit c all ms)
-          (all_return most limit c ms);
+          ∙ all_stand c all ms)
+          (all_return c ms);
+    }
+
+-- ---- the reference gateway, whose wishes are by its rules
+
+abbrev wishes : ℕ → ℕ → List Message → List Wished
+wishes most limit [] = []
+wishes most limit (m ∷ before) = record { wish = wish_for (reference_after most limit before) m; message = m } ∷ wishes most limit before
+
+same_books : (most limit : ℕ) (ms : List Message) → books_at (wishes most limit ms) ≡ (reference_after most limit ms).books
+same_books most limit [] = refl
+same_books most limit (m ∷ before) = ap (λ (b : Books). heard (wish_for (reference_after most limit before) m) b m) (same_books most limit before)
+
+same_said : (most limit : ℕ) (ms : List Message) → said_at (wishes most limit ms) ≡ said_over most limit ms
+same_said most limit [] = refl
+same_said most limit (m ∷ before) =
+    ap₂ (λ (b : Books) (l : List Said). said_of m (given_after (heard (wish_for (reference_after most limit before) m) b m) m) ∷ l) (same_books most limit before)
+    (same_said most limit before)
+
+pub honest_over : (most limit : ℕ) (ms : List Message) → IsHonestOver most limit ms
+honest_over most limit ms =
+    let so = honest_at (wishes most limit ms) in
+    record {
+      honest = subst IsHonest (same_said most limit ms) so.honest;
+      total_is = λ c.
+          ap (λ (b : Books). total b c) (sym (same_books most limit ms)) ∙ so.total_is c
+          ∙ ap (total_said c) (same_said most limit ms);
     }

@@ -18,7 +18,7 @@ use Rattle.iss_gateway.specs.declared.message.Given.TheVariants.{Funded, Refused
 use Rattle.iss_gateway.specs.Messages.{message_asked, message_noted, status_of}
 use Rattle.iss_gateway.specs.Readings.{asks, message_read}
 use Rattle.iss_gateway.specs.Bodies.{body_of}
-use Rattle.iss_gateway.specs.Books.{total}
+use Rattle.iss_gateway.specs.Books.{Books, new_books, heard, given_after, total}
 use Rattle.iss_gateway.specs.Rules.{Reference, new_reference, after_hearing, given_for}
 use Rattle.iss_gateway.specs.Honest.{Said, IsHonest, total_said}
 
@@ -74,6 +74,26 @@ pub record IsToldAsGiven (instance : ℕ) (o : Opened) : Type 0 where
   pub refused : IsTold instance o Refused outcome.Refused
 
 -- ---- lists of messages, the last first
+
+-- a message, and how much a gateway would fund for it
+pub record Wished : Type 0 where
+  pub wish : ℕ
+  pub message : Message
+
+-- the books of a gateway that would fund so much for each of these messages
+abbrev pub books_at : List Wished → Books
+books_at [] = new_books
+books_at (x ∷ before) = heard x.wish (books_at before) x.message
+
+-- what it heard and gave
+abbrev pub said_at : List Wished → List Said
+said_at [] = []
+said_at (x ∷ before) = record { message = x.message; given = given_after (books_at (x ∷ before)) x.message } ∷ said_at before
+
+-- Over these messages it gave all rightly, and its total is that of an honest gateway.
+pub record IsHonestAt (messages : List Wished) : Type 0 where
+  pub honest : IsHonest (said_at messages)
+  pub total_is : (c : Currency) → total (books_at messages) c ≡ total_said c (said_at messages)
 
 -- the reference gateway after these messages
 abbrev pub reference_after : ℕ → ℕ → List Message → Reference

@@ -20,7 +20,8 @@ pub struct Reply {
     pub body: Vec<u8>,
 }
 
-/// Answers a body with what the gateway gives for the message that it is. A body that is none is told so, and changes nothing.
+/// Answers a body with what the gateway gives for the message that it is. A body that is no message gets
+/// status 400 and changes nothing.
 ///
 /// If an allocation fails, the message may have been heard.
 pub fn answer(gateway: &mut Gateway, alloc: Global, text: &[u8]) -> Result<Reply, AllocError>

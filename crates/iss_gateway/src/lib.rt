@@ -23,6 +23,8 @@ pub use answering::{Reply, answer};
 pub use bodies::{body, put_body, unread_body};
 pub use books::{MOST_HEARD, Note, Promise};
 pub use gateway::Gateway;
-pub use laws::{answers_are_read, messages_are_read, reference_gateway_is_honest};
+pub use laws::{
+    answers_are_read, gateways_are_honest, messages_are_read, reference_gateway_is_honest,
+};
 pub use message::{Given, Message};
 pub use reading::read_text;

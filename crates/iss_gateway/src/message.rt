@@ -48,7 +48,7 @@ impl Message {
 /// What a gateway gives for a message.
 #[derive(Clone, Copy, Debug, PartialEq, Eq)]
 pub enum Given {
-    /// So many minor units: what was asked for, or a part of it.
+    /// In minor units: the amount that was asked for, or a part of it.
     Funded(u64),
     Refused,
     /// It has acted on a notice.
