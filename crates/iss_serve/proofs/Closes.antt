@@ -1,4 +1,4 @@
--- Channels are closed, one after the other.
+-- All channels that are open are closed, kind by kind.
 use Rattle.std.proofs.Common.{◌≡◌, ℕ, ◌+◌, ◌<◌, List, [], ◌∷◌, ◌++◌, length, map, drop, get_or, Option, refl, sym, ap, subst, ◌∙◌, append-nil, append_assoc}
 use Rattle.std.proofs.lemmas.List.{map-append, drop_more}
 use Rattle.iss_edge.specs.declared.outside.Channel.{Channel}
@@ -13,38 +13,10 @@ use Rattle.iss_edge.proofs.Tolds.{told_then}
 use Rattle.iss_model.specs.declared.input.Record.{Record}
 use Rattle.iss_session.specs.Sessions.{count}
 use Rattle.iss_session.specs.Happenings.{closings, last_steps}
-use Rattle.iss_store.proofs.ServedTexts.{told_unchanged}
+use Rattle.iss_clients.proofs.Closes.{told_adds_then}
 use Rattle.iss_store.specs.Values.{StoreNow}
 use Rattle.iss_serve.specs.Closings.{open_channels}
 use Rattle.iss_serve.specs.Held.{HeldNow, idle, session_at}
-
--- some first ones of these channels were closed, and these are left
-pub record ClosedUpTo (all rest : List Channel) (x y : Option Outer) : Type 0 where
-  pub front : List Channel
-  pub cut : all ≡ front ++ rest
-  pub told : Told (Adds (map Close front) []) x y
-
-pub closed_to_begin : (all : List Channel) (x : Option Outer) → ClosedUpTo all all x x
-closed_to_begin all x = record { front = []; cut = refl; told = told_unchanged x }
-
-told_adds_then : (xs ys : List Action) (x y z : Option Outer) → Told (Adds xs []) x y → Told (Adds ys []) y z → Told (Adds (xs ++ ys) []) x z
-told_adds_then xs ys x y z p q = told_then (Adds xs []) (Adds ys []) (Adds (xs ++ ys) []) x y z (adds_then xs ys [] []) p q
-
-pub closed_to_next : (all rest : List Channel) (ch : Channel) (x y z : Option Outer) → ClosedUpTo all (ch ∷ rest) x y → Told (Adds (Close ch ∷ []) []) y z → ClosedUpTo all rest x z
-closed_to_next all rest ch x y z p q =
-    record {
-      front = p.front ++ ch ∷ [];
-      cut = p.cut ∙ sym (append_assoc p.front (ch ∷ []) rest);
-      told =
-          subst (λ (l : List Action). Told (Adds l []) x z) (sym (map-append Close p.front (ch ∷ [])))
-          (told_adds_then (map Close p.front) (Close ch ∷ []) x y z p.told q);
-    }
-
-pub closed_to_end : (all : List Channel) (x y : Option Outer) → ClosedUpTo all [] x y → Told (Adds (map Close all) []) x y
-closed_to_end all x y p = subst (λ (l : List Channel). Told (Adds (map Close l) []) x y) (sym (p.cut ∙ append-nil p.front)) p.told
-
-pub next_channel : (all : List Channel) (i : ℕ) (ch : Channel) → i < length all → ch ≡ get_or all i ch → drop i all ≡ ch ∷ drop (i + 1) all
-next_channel all i ch within is = drop_more all i ch within ∙ ap (λ (c : Channel). c ∷ drop (i + 1) all) (sym is)
 
 pub three_closed : (h : HeldNow) (x y z w : Option Outer) → Told (Adds (map Close (map (λ r. r.ch) h.clients)) []) x y → Told (Adds (map Close (map (λ v. v.ch) h.served)) []) y z
     → Told (Adds (map Close (map (λ l. l.ch) h.links.links)) []) z w → Told (Adds (map Close (open_channels h)) []) x w

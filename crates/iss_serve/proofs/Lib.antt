@@ -8,12 +8,10 @@ pub mod Judgements
 pub mod Closes
 pub mod Ending
 pub mod Reading
-pub mod Texts
 pub mod Hears
 pub mod Keeps
 pub mod Causings
 pub mod Loops
-pub mod Feeding
 pub mod ServeWhole
 pub mod ToldServes
 pub mod Numbering

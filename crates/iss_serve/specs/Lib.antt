@@ -1,7 +1,6 @@
 pub mod Causes
 pub mod Held
 pub mod Requests
-pub mod Clients
 pub mod Judged
 pub mod Closings
 pub mod Goings

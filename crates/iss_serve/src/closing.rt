@@ -8,7 +8,8 @@ ghost use Rattle.iss_serve.specs.Closings.{open_channels};
 ghost use Rattle.iss_serve.specs.Held.{seen_held};
 
 use crate::held::Held;
-use iss_edge::{Channel, Edge};
+use iss_clients::close_each;
+use iss_edge::Edge;
 use std::alloc::{AllocError, Global};
 
 /// Closes the clients whose requests aren't whole, the clients that wait, and the channels to the gateway.
@@ -25,15 +26,4 @@ pub(crate) fn close_all<E: Edge>(alloc: Global, held: &Held, edge: &mut E) -> Re
     close_each(edge, &waiting);
     close_each(edge, &linked);
     Ok(())
-}
-
-/// Closes these channels.
-fn close_each<E: Edge>(edge: &mut E, channels: &[Channel])
-    ensures closed { ToldBoth E.told E.heard (Adds (map Close channels.now) []) edge.old edge.new }
-    ensures alone { StillTold E.told edge.old edge.new }
-    ensures later { Later (E.faults edge.old) (E.faults edge.new) }
-{
-    for ch in channels {
-        edge.close(*ch);
-    }
 }

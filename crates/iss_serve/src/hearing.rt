@@ -22,7 +22,8 @@ ghost use Rattle.iss_serve.specs.Runs.{HearsFrom, HearsOfAny, HearsShort, Passes
 
 use crate::ServeFault;
 use crate::held::{Held, QueuedInput};
-use crate::requests::Request;
+use crate::requests::{Request, read_request};
+use iss_clients::take_piece;
 use iss_edge::{Arrival, Channel, Edge};
 use iss_link::Heard;
 use iss_model::limits::LAST_STAMP;
@@ -135,10 +136,13 @@ impl Held {
             self.lose_client(edge, ch);
             return Ok(None);
         }
-        match self
-            .clients
-            .read(alloc, &mut self.scratch, ch, &self.buffer[..count])?
-        {
+        match read_request(
+            &mut self.clients,
+            alloc,
+            &mut self.scratch,
+            ch,
+            &self.buffer[..count],
+        )? {
             Request::More => Ok(None),
             Request::Says(input) => Ok(Some(QueuedInput {
                 input,
@@ -237,24 +241,6 @@ impl Held {
     {
         let heard = self.links.ready(alloc, edge, ch)?;
         Ok(queued_of(&heard))
-    }
-}
-
-/// Takes the next bytes of a channel that is ready, and returns how many came: 0 at their end, `None` if the take failed.
-#[tactic(auto, using(iss_edge::proofs::Outers::told_takes, iss_edge::proofs::Outers::told_untaken, iss_link::proofs::Worlds::told_some))]
-fn take_piece<E: Edge>(edge: &mut E, ch: Channel, buffer: &mut [u8]) -> Option<usize>
-    requires ready { (E.channels edge.old).ready ≡ Some ch.0 }
-    requires room { length buffer.old ≡ LONGEST_PIECE }
-    ensures room { length buffer.new ≡ LONGEST_PIECE }
-    ensures bound { IfSome result (λ count. count ≤ length buffer.new) }
-    ensures told { ToldBoth E.told E.heard (Adds [] (Took ch (got_in buffer.new result) ∷ [])) edge.old edge.new }
-    ensures alone { StillTold E.told edge.old edge.new }
-    ensures later { Later (E.faults edge.old) (E.faults edge.new) }
-    ensures kept { Stays E.extent edge.old edge.new }
-{
-    match edge.take(ch, buffer) {
-        Ok(count) => Some(count),
-        Err(_) => None,
     }
 }
 

@@ -1,12 +1,13 @@
 //! What is held while a run serves.
-ghost use Rattle.std.specs.Prelude.{◌≡◌, ◌<◌, ◌∷◌, [], true, length, IfOk, OnOk};
+ghost use Rattle.std.specs.Prelude.{◌≡◌, ◌<◌, ◌∷◌, [], true, IfOk, OnOk};
 ghost use Rattle.iss_model.specs.declared.limits.TheConstants.{INSTANCES};
 ghost use Rattle.iss_store.specs.Serving.{has_number, HaveNumbers};
 ghost use Rattle.iss_serve.specs.Held.{seen_held, noted, IsHeld, IsStillHeld};
 
-use crate::clients::Clients;
+use iss_clients::{Clients, zeros};
 use iss_edge::Channel;
 use iss_event::Scratch;
+use iss_http::RequestReader;
 use iss_link::{Gone, Links};
 use iss_model::{CallId, Input};
 use iss_session::piece::LONGEST_PIECE;
@@ -24,7 +25,7 @@ pub(crate) struct QueuedInput {
 #[derive(Drop)]
 pub(crate) struct Held {
     /// The clients whose requests aren't whole yet.
-    pub(crate) clients: Clients,
+    pub(crate) clients: Clients<RequestReader>,
     /// Where what is said goes out, and the clients that wait until their events are decided.
     pub(crate) routes: Routes,
     /// The channels on which the gateway's answers are awaited.
@@ -94,12 +95,4 @@ impl Held {
             Gone::Noted(..) => self.links.watch(gone),
         }
     }
-}
-
-/// `size` zeros.
-fn zeros(alloc: Global, size: usize) -> Result<Vec<u8>, AllocError>
-    ensures { IfOk result (λ bytes. length bytes.items ≡ size) }
-{
-    let bytes = vec![in alloc; 0; size]?;
-    Ok(bytes)
 }

@@ -6,11 +6,11 @@ ghost use Rattle.iss_session.specs.Hearings.{is_reading};
 ghost use Rattle.iss_session_examples.specs.Program.{line_as};
 ghost use Rattle.iss_serve.specs.Requests.{ReadsOn, SaysLine, IsRequestInForm};
 
-use crate::clients::Clients;
-use crate::telling::{fault_response, form_response};
+use crate::telling::form_response;
+use iss_clients::{Clients, fault_response};
 use iss_edge::Channel;
 use iss_event::{LineFault, Mode, Scratch, read_line_in};
-use iss_http::FeedFault;
+use iss_http::{FeedFault, RequestReader};
 use iss_model::Input;
 use std::alloc::{AllocError, Global};
 
@@ -25,31 +25,29 @@ pub(crate) enum Request {
     Bad(Vec<u8>),
 }
 
-impl Clients {
-    /// Reads on in a client's request. Unless more of it is to come, nothing more is read on its channel.
-    pub(crate) fn read(
-        &mut self,
-        alloc: Global,
-        scratch: &mut Scratch,
-        ch: Channel,
-        piece: &[u8],
-    ) -> Result<Request, AllocError>
-        requires reading { is_reading ch self.old ≡ true }
-        ensures reads { IfOk result (ReadsOn ch piece.now self.old self.new) }
-        ensures forms { IfOk result IsRequestInForm }
-    {
-        match self.feed(alloc, ch, piece) {
-            Ok(None) => Ok(Request::More),
-            Ok(Some(body)) => {
-                self.remove(ch);
-                read_body(alloc, scratch, &body)
-            }
-            Err(FeedFault::Http(fault)) => {
-                self.remove(ch);
-                Ok(Request::Bad(fault_response(alloc, fault)?))
-            }
-            Err(FeedFault::OutOfMemory) => Err(AllocError),
+/// Reads on in a client's request. Unless more of it is to come, nothing more is read on its channel.
+pub(crate) fn read_request(
+    clients: &mut Clients<RequestReader>,
+    alloc: Global,
+    scratch: &mut Scratch,
+    ch: Channel,
+    piece: &[u8],
+) -> Result<Request, AllocError>
+    requires reading { is_reading ch clients.old ≡ true }
+    ensures reads { IfOk result (ReadsOn ch piece.now clients.old clients.new) }
+    ensures forms { IfOk result IsRequestInForm }
+{
+    match clients.feed(alloc, ch, piece) {
+        Ok(None) => Ok(Request::More),
+        Ok(Some(body)) => {
+            clients.remove(ch);
+            read_body(alloc, scratch, &body)
         }
+        Err(FeedFault::Http(fault)) => {
+            clients.remove(ch);
+            Ok(Request::Bad(fault_response(alloc, fault)?))
+        }
+        Err(FeedFault::OutOfMemory) => Err(AllocError),
     }
 }
 

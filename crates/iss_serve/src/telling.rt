@@ -1,14 +1,12 @@
-//! The responses that tell a client what is wrong with its request.
+//! The response that tells a client what is wrong with its line.
 ghost use Rattle.std.specs.Prelude.{◌≡◌, IfOk};
 ghost use Rattle.iss_event.specs.FormLines.{form_text};
 ghost use Rattle.iss_http.specs.declared.statuses.TheConstants.{BAD_REQUEST};
-ghost use Rattle.iss_http.specs.Messages.{respond, IsStatus};
-ghost use Rattle.iss_model.specs.texts.AnswerLines.{http_fault_line};
-ghost use Rattle.iss_session.specs.Hearings.{fault_status, fault_text, fault_response};
+ghost use Rattle.iss_http.specs.Messages.{respond};
 
 use iss_event::{FormFault, form_line};
-use iss_http::statuses::{BAD_REQUEST, NOT_FOUND};
-use iss_http::{HttpFault, respond};
+use iss_http::respond;
+use iss_http::statuses::BAD_REQUEST;
 use std::alloc::{AllocError, Global};
 
 /// The response that tells the fault of a line.
@@ -17,50 +15,4 @@ pub(crate) fn form_response(alloc: Global, fault: &FormFault) -> Result<Vec<u8>,
 {
     let line = form_line(alloc, fault)?;
     respond(alloc, BAD_REQUEST, &line)
-}
-
-/// The response that tells the fault of a request.
-pub(crate) fn fault_response(alloc: Global, fault: HttpFault) -> Result<Vec<u8>, AllocError>
-    ensures { IfOk result (λ text. text.items ≡ fault_response fault) }
-{
-    let line = fault_line(alloc, fault)?;
-    respond(alloc, fault_status(fault), &line)
-}
-
-/// The status that tells a fault of HTTP.
-fn fault_status(fault: HttpFault) -> u16
-    ensures value { result ≡ fault_status fault }
-    ensures known { IsStatus result }
-{
-    match fault {
-        HttpFault::Path => NOT_FOUND,
-        _ => BAD_REQUEST,
-    }
-}
-
-/// The name of a fault of HTTP.
-fn fault_text(fault: HttpFault) -> &'static str
-    ensures { result.now ≡ fault_text fault }
-{
-    match fault {
-        HttpFault::Head => "HEAD",
-        HttpFault::HeadLong => "HEAD_LONG",
-        HttpFault::Method => "METHOD",
-        HttpFault::Path => "PATH",
-        HttpFault::Coding => "CODING",
-        HttpFault::NoLength => "NO_LENGTH",
-        HttpFault::BodyLong => "BODY_LONG",
-    }
-}
-
-/// The line that tells a fault of HTTP, with its line feed.
-#[tactic(auto, using(crate::proofs::Texts::fault_told), unfolding(iss_model::specs::texts::AnswerLines::http_fault_line))]
-fn fault_line(alloc: Global, fault: HttpFault) -> Result<Vec<u8>, AllocError>
-    ensures { IfOk result (λ line. line.items ≡ http_fault_line (fault_text fault)) }
-{
-    let mut line = Vec::new(alloc);
-    line.extend_from_slice(b"{\"fault\":\"")?;
-    line.extend_from_slice(fault_text(fault).as_bytes())?;
-    line.extend_from_slice(b"\",\"reply\":\"http\"}\n")?;
-    Ok(line)
 }

@@ -26,8 +26,8 @@ returns-then-count-eq0-clause-hears g c = λ store.
     told_client_ended store (seen_held c.args.self.now) c.args.ch c.requires.settled (outer_of (g.E.Edge.told c.args.edge.now) (g.E.Edge.heard c.args.edge.now)) (outer_of (g.E.Edge.told c.take_piece.new.edge) (g.E.Edge.heard c.take_piece.new.edge)) (seen_held c.lose_client-then-count-eq0.new.self) (outer_of (g.E.Edge.told c.lose_client-then-count-eq0.new.edge) (g.E.Edge.heard c.lose_client-then-count-eq0.new.edge)) c.take_piece.new.buffer c.in-Some.count
     c.requires.reading none c.lose_client-then-count-eq0.ensures.now c.in-Some.ensures.told c.lose_client-then-count-eq0.ensures.told
 
-pub returns-in_err-read-clause-part : goal.returns-in_err-read-clause-part
-returns-in_err-read-clause-part g c = λ store.
+pub returns-in_err-read_request-clause-part : goal.returns-in_err-read_request-clause-part
+returns-in_err-read_request-clause-part g c = λ store.
     anyway c.from_residual.result (Told (ServesSome ⊥ (taking store (seen_held c.args.self.now) c.args.ch)) (outer_of (g.E.Edge.told c.args.edge.now) (g.E.Edge.heard c.args.edge.now)) (outer_of (g.E.Edge.told c.take_piece.new.edge) (g.E.Edge.heard c.take_piece.new.edge)))
     (told_took_some store (seen_held c.args.self.now) c.args.ch c.requires.settled (outer_of (g.E.Edge.told c.args.edge.now) (g.E.Edge.heard c.args.edge.now)) (outer_of (g.E.Edge.told c.take_piece.new.edge) (g.E.Edge.heard c.take_piece.new.edge)) c.take_piece.new.buffer c.in-Some.count c.take_piece.ensures.room c.in-Some.ensures.bound c.in-Some.ensures.told)
 
@@ -37,13 +37,13 @@ returns-in-More-clause-hears g c = λ store.
     let ch = c.args.ch in
     let x = (outer_of (g.E.Edge.told c.args.edge.now) (g.E.Edge.heard c.args.edge.now)) in
     let y = (outer_of (g.E.Edge.told c.take_piece.new.edge) (g.E.Edge.heard c.take_piece.new.edge)) in
-    let now : HeldNow = record h { clients = c.read.new.self } in
+    let now : HeldNow = record h { clients = c.read_request.new.clients } in
     let some : c.in-Some.count ≡ 0 → ⊥ = search rules in
     let there : c.deref.result.now ≡ c.take_piece.new.buffer =
     c.deref.ensures.value
     ∙ with_items_is c.args.self.now.buffer c.take_piece.new.buffer (c.take_piece.ensures.room ∙ sym c.requires.held.room ∙ ap (λ (l : List ℕ). length l) (sym c.deref_mut.ensures.value) ∙ c.deref_mut.ensures.len) in
     let piece : List ℕ = take c.in-Some.count c.deref.result.now in
-    let read = subst (λ (r : Request). ReadsOn ch piece h.clients c.read.new.self r) c.in-More.is c.in_ok-read.ensures.reads in
+    let read = subst (λ (r : Request). ReadsOn ch piece h.clients c.read_request.new.clients r) c.in-More.is c.in_ok-read_request.ensures.reads in
     let led =
     told_request store h ch c.requires.settled x y now c.take_piece.new.buffer c.in-Some.count piece More c.requires.reading c.take_piece.ensures.room c.in-Some.ensures.bound some (ap (λ (l : List ℕ). take c.in-Some.count l) there) read refl c.in-Some.ensures.told in
     led
@@ -54,13 +54,13 @@ returns-in-Says-clause-hears g c = λ store.
     let ch = c.args.ch in
     let x = (outer_of (g.E.Edge.told c.args.edge.now) (g.E.Edge.heard c.args.edge.now)) in
     let y = (outer_of (g.E.Edge.told c.take_piece.new.edge) (g.E.Edge.heard c.take_piece.new.edge)) in
-    let now : HeldNow = record h { clients = c.read.new.self } in
+    let now : HeldNow = record h { clients = c.read_request.new.clients } in
     let some : c.in-Some.count ≡ 0 → ⊥ = search rules in
     let there : c.deref.result.now ≡ c.take_piece.new.buffer =
     c.deref.ensures.value
     ∙ with_items_is c.args.self.now.buffer c.take_piece.new.buffer (c.take_piece.ensures.room ∙ sym c.requires.held.room ∙ ap (λ (l : List ℕ). length l) (sym c.deref_mut.ensures.value) ∙ c.deref_mut.ensures.len) in
     let piece : List ℕ = take c.in-Some.count c.deref.result.now in
-    let read = subst (λ (r : Request). ReadsOn ch piece h.clients c.read.new.self r) c.in-Says.is c.in_ok-read.ensures.reads in
+    let read = subst (λ (r : Request). ReadsOn ch piece h.clients c.read_request.new.clients r) c.in-Says.is c.in_ok-read_request.ensures.reads in
     let led =
     told_request store h ch c.requires.settled x y now c.take_piece.new.buffer c.in-Some.count piece (Says c.in-Says.input) c.requires.reading c.take_piece.ensures.room c.in-Some.ensures.bound some (ap (λ (l : List ℕ). take c.in-Some.count l) there) read refl c.in-Some.ensures.told in
     led
@@ -71,13 +71,13 @@ returns-in-Bad-clause-hears g c = λ store.
     let ch = c.args.ch in
     let x = (outer_of (g.E.Edge.told c.args.edge.now) (g.E.Edge.heard c.args.edge.now)) in
     let y = (outer_of (g.E.Edge.told c.take_piece.new.edge) (g.E.Edge.heard c.take_piece.new.edge)) in
-    let now : HeldNow = record h { clients = c.read.new.self } in
+    let now : HeldNow = record h { clients = c.read_request.new.clients } in
     let some : c.in-Some.count ≡ 0 → ⊥ = search rules in
     let there : c.deref.result.now ≡ c.take_piece.new.buffer =
     c.deref.ensures.value
     ∙ with_items_is c.args.self.now.buffer c.take_piece.new.buffer (c.take_piece.ensures.room ∙ sym c.requires.held.room ∙ ap (λ (l : List ℕ). length l) (sym c.deref_mut.ensures.value) ∙ c.deref_mut.ensures.len) in
     let piece : List ℕ = take c.in-Some.count c.deref.result.now in
-    let read = subst (λ (r : Request). ReadsOn ch piece h.clients c.read.new.self r) c.in-Bad.is c.in_ok-read.ensures.reads in
+    let read = subst (λ (r : Request). ReadsOn ch piece h.clients c.read_request.new.clients r) c.in-Bad.is c.in_ok-read_request.ensures.reads in
     let led =
     told_request store h ch c.requires.settled x y now c.take_piece.new.buffer c.in-Some.count piece (Bad c.in-Bad.text) c.requires.reading c.take_piece.ensures.room c.in-Some.ensures.bound some (ap (λ (l : List ℕ). take c.in-Some.count l) there) read refl c.in-Some.ensures.told in
     let last = seen_held c.answer_client.new.self in
