@@ -8,7 +8,7 @@ ghost use Rattle.iss_chain.specs.Restoring.{with_restored, IsRestorable};
 ghost use Rattle.iss_chain.specs.Rows.{chain_of, AreBooksKept};
 
 use crate::books::Books;
-use crate::rows::{make_room, set_sums};
+use crate::rows::add_sums;
 use crate::sums::PostSums;
 use iss_model::{Account, Carried, Token, Txn, TxnSums};
 use std::alloc::{AllocError, Global};
@@ -67,8 +67,7 @@ impl Books {
     {
         let place = self.holds.len();
         self.holds.restore(txn, sums)?;
-        make_room(&mut self.sums, place)?;
-        set_sums(&mut self.sums, place, PostSums::of(sums));
+        add_sums(&mut self.sums, place, PostSums::of(sums))?;
         Ok(())
     }
 }

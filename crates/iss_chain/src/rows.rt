@@ -39,3 +39,15 @@ pub(crate) fn set_sums(sums: &mut BTreeMap<usize, Option<PostSums>>, place: usiz
         *row = Some(put);
     }
 }
+
+/// Writes the sums at a place, whether or not there is room.
+pub(crate) fn add_sums(
+    sums: &mut BTreeMap<usize, Option<PostSums>>,
+    place: usize,
+    put: PostSums,
+) -> Result<(), AllocError>
+    ensures { OnOk result (tree.Updates by_place sums.old sums.new place (Some (Some put))) }
+{
+    sums.insert(place, Some(put))?;
+    Ok(())
+}

@@ -1,4 +1,4 @@
-use Rattle.std.proofs.Common.{ℕ, ◌≡◌, ◌<◌, subst}
+use Rattle.std.proofs.Common.{ℕ, ◌≡◌, ◌<◌, refl, subst}
 use Rattle.std.specs.Prelude.{Some}
 use Rattle.std.specs.BTreeMap as tree
 use Rattle.iss_chain.specs.Rows.{by_place, chain_of}
@@ -22,13 +22,12 @@ of-requires-clause-paid c =
 
 pub returns-clause-restored : goal.returns-clause-restored
 returns-clause-restored c =
-    restored_in c.args.self.now c.restore.new.self c.make_room.new.sums c.set_sums.new.sums c.args.txn.now c.args.sums.now c.of.result
-    c.requires.restorable.new.unknown c.of.ensures c.in_ok-restore.ensures.restored c.make_room.ensures.same
-    (subst (λ (n : ℕ). tree.Updates by_place c.make_room.new.sums c.set_sums.new.sums n (Some (Some c.of.result))) c.len-place.ensures c.set_sums.ensures)
+    restored_in c.args.self.now c.restore.new.self c.args.self.now.sums c.add_sums.new.sums c.args.txn.now c.args.sums.now c.of.result
+    c.requires.restorable.new.unknown c.of.ensures c.in_ok-restore.ensures.restored (λ at. refl)
+    (subst (λ (n : ℕ). tree.Updates by_place c.args.self.now.sums c.add_sums.new.sums n (Some (Some c.of.result))) c.len-place.ensures c.in_ok-add_sums.ensures)
 
 pub returns-clause-kept : goal.returns-clause-kept
 returns-clause-kept c =
-    restored_kept c.args.self.now c.restore.new.self c.make_room.new.sums c.set_sums.new.sums c.args.txn.now c.args.sums.now c.of.result
-    c.requires.kept c.requires.restorable.new.unknown c.requires.restorable.small c.of.ensures c.in_ok-restore.ensures.restored c.make_room.ensures.same
-    (subst (λ (n : ℕ). (at : ℕ) → n < at → tree.get by_place c.make_room.new.sums at ≡ tree.get by_place c.args.self.now.sums at) c.len-place.ensures c.make_room.ensures.later)
-    (subst (λ (n : ℕ). tree.Updates by_place c.make_room.new.sums c.set_sums.new.sums n (Some (Some c.of.result))) c.len-place.ensures c.set_sums.ensures)
+    restored_kept c.args.self.now c.restore.new.self c.args.self.now.sums c.add_sums.new.sums c.args.txn.now c.args.sums.now c.of.result
+    c.requires.kept c.requires.restorable.new.unknown c.requires.restorable.small c.of.ensures c.in_ok-restore.ensures.restored (λ at. refl) (λ at after. refl)
+    (subst (λ (n : ℕ). tree.Updates by_place c.args.self.now.sums c.add_sums.new.sums n (Some (Some c.of.result))) c.len-place.ensures c.in_ok-add_sums.ensures)
