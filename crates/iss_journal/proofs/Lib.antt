@@ -1,4 +1,4 @@
-mod Readings
+pub mod Readings
 pub mod Records
 pub mod Gates
 mod Appends

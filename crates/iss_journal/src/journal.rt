@@ -86,6 +86,14 @@ impl Journal {
         }
     }
 
+    /// The journal without a record whose end gate stands, closed, at the first place of a region.
+    pub fn fresh(from: u64, to: u64) -> Journal
+        requires { from < to }
+        ensures { result ≡ record { gate = from; to = to } }
+    {
+        Journal::at(from, to)
+    }
+
     /// The journal whose end gate stands at this place, closed.
     pub(crate) fn at(gate: u64, to: u64) -> Journal
         requires { gate < to }

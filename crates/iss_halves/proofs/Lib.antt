@@ -1,0 +1,7 @@
+pub mod Beside
+pub mod Turns
+pub mod Standings
+pub mod Makings
+pub mod Findings
+pub mod Openings
+pub mod TurnedAppends

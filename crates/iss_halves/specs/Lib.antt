@@ -1,0 +1,9 @@
+pub mod Forms
+pub mod Halves
+pub mod Turning
+pub mod Making
+pub mod Finding
+pub mod Standing
+pub mod Keeping
+pub mod Opening
+pub mod Turned
