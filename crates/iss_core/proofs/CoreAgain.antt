@@ -21,8 +21,8 @@ use Rattle.iss_accepted.specs.Values.{EventsNow}
 use Rattle.iss_chain.specs.Values.{ChainNow, chain_part}
 use Rattle.iss_sound.specs.Sound.{IsSoundButSettings, IsSoundState}
 use Rattle.iss_sound.proofs.Apart.{settings_apart}
-use Rattle.iss_sound_cores.specs.Made.{HoldsOfCore}
-use Rattle.iss_sound_cores.proofs.CoresAgain.{core_again}
+use Rattle.iss_restored.specs.Made.{HoldsOfCore}
+use Rattle.iss_restored.proofs.CoresAgain.{core_again}
 use Rattle.iss_restored_lists.specs.Events.{events_of_core}
 use Rattle.iss_core.specs.Sound.{IsSound}
 use Rattle.iss_core.proofs.SettingsAgain.{AreSetAgain, settings_again}

@@ -10,6 +10,7 @@ use Rattle.std.proofs.lemmas.Option.{slice_get_read}
 use Rattle.std.proofs.Math.ListN.{drop_of_length-le}
 use Rattle.iss_model.specs.declared.input.Input.{Input}
 use Rattle.iss_model.specs.declared.input.Input.TheVariants as input
+use Rattle.iss_model.specs.declared.state.Carried.{Carried}
 use Rattle.iss_model.specs.declared.state.Seen.{Seen}
 use Rattle.iss_model.specs.rules.Activity.{TxnNow, txn_named}
 use Rattle.iss_model.specs.rules.Asks.{Ask}
@@ -20,7 +21,7 @@ use Rattle.iss_states.specs.Order.{has_event_token, have_tokens_of_their_own, is
 use Rattle.iss_states.specs.Rebuilding.{is_done}
 use Rattle.iss_rebuilt.proofs.MadeShown.{first_named}
 use Rattle.iss_known.specs.Known.{KnownNow}
-use Rattle.iss_known.specs.Reading.{ask_known, begun_by, facts_known, known_after, known_from, makes_its_call, nothing_known, settled_known, with_ask, with_setting_known}
+use Rattle.iss_known.specs.Reading.{ask_known, begun_by, facts_known, known_after, known_in_turn, live_at, makes_its_call, nothing_known, settled_known, with_ask, with_setting_known}
 use Rattle.iss_known.proofs.ShownAgain.{no_later, other_token, token_of}
 
 -- a list from a place on
@@ -80,7 +81,7 @@ module _ (live : List ℕ → Option Bool) where
           find-append (λ (t : TxnNow). bytes_eq t.txn.token token) settled.txns (begun_by live x)
           ∙ ap₂ (λ (o p : Option TxnNow). option_or o p) before (begins_other token x (other x refl))
 
-  still_none : (k : KnownNow) (e : Seen) (es : List Seen) → list_all is_event_record es ≡ true → list_any (has_event_token (token_of e)) es ≡ false → Each (HasNotBegun k.txns) es → Each (HasNotBegun (known_after live k e).txns) es
+  pub still_none : (k : KnownNow) (e : Seen) (es : List Seen) → list_all is_event_record es ≡ true → list_any (has_event_token (token_of e)) es ≡ false → Each (HasNotBegun k.txns) es → Each (HasNotBegun (known_after live k e).txns) es
   still_none k e [] forms none h = tt
   still_none k e (x ∷ es) forms none h =
       let form = and_parts (is_event_record x) (list_all is_event_record es) forms in
@@ -89,9 +90,10 @@ module _ (live : List ℕ → Option Bool) where
         still_none k e es form.1 apart.1 h.1,
       )
 
+module _ (ts : List Carried) where
   -- what is read of events, and what is left of them
   pub record IsReading (all left : List Seen) (k : KnownNow) : Type 0 where
-    pub rest : known_from live k left ≡ known_from live nothing_known all
+    pub rest : known_in_turn ts k left ≡ known_in_turn ts nothing_known all
     pub fresh : Each (HasNotBegun k.txns) left
     pub own : have_tokens_of_their_own left ≡ true
     pub forms : list_all is_event_record left ≡ true
@@ -117,19 +119,19 @@ module _ (live : List ℕ → Option Bool) where
       pub its_fresh : HasNotBegun k.txns e
       its_fresh = here.fresh.0
 
-      pub goes_on : (after : KnownNow) → after ≡ known_after live k e → makes_its_call k e ≡ true → IsReading all (drop (i + 1) all) after
+      pub goes_on : (after : KnownNow) → after ≡ known_after (live_at ts (length k.txns)) k e → makes_its_call k e ≡ true → IsReading all (drop (i + 1) all) after
       goes_on after same makes =
           let forms = and_parts (is_event_record e) (list_all is_event_record (drop (i + 1) all)) here.forms in
           let own = and_parts (not (list_any (has_event_token (token_of e)) (drop (i + 1) all))) (have_tokens_of_their_own (drop (i + 1) all)) here.own in
           subst (λ (x : KnownNow). IsReading all (drop (i + 1) all) x) (sym same) (record {
-            rest = sym (ap (λ (b : Bool). cond b (known_from live (known_after live k e) (drop (i + 1) all)) None) makes) ∙ here.rest;
-            fresh = still_none k e (drop (i + 1) all) forms.1 (no_later e (drop (i + 1) all) here.own) here.fresh.1;
+            rest = sym (ap (λ (b : Bool). cond b (known_in_turn ts (known_after (live_at ts (length k.txns)) k e) (drop (i + 1) all)) None) makes) ∙ here.rest;
+            fresh = still_none (live_at ts (length k.txns)) k e (drop (i + 1) all) forms.1 (no_later e (drop (i + 1) all) here.own) here.fresh.1;
             own = own.1;
             forms = forms.1;
           })
 
-      pub gives_up : makes_its_call k e ≡ false → None ≡ known_from live nothing_known all
-      gives_up makes = sym (ap (λ (b : Bool). cond b (known_from live (known_after live k e) (drop (i + 1) all)) None) makes) ∙ here.rest
+      pub gives_up : makes_its_call k e ≡ false → None ≡ known_in_turn ts nothing_known all
+      gives_up makes = sym (ap (λ (b : Bool). cond b (known_in_turn ts (known_after (live_at ts (length k.txns)) k e) (drop (i + 1) all)) None) makes) ∙ here.rest
 
-  pub over : (all : List Seen) (k : KnownNow) (n : ℕ) → length all ≤ n → IsReading all (drop n all) k → Some k ≡ known_from live nothing_known all
+  pub over : (all : List Seen) (k : KnownNow) (n : ℕ) → length all ≤ n → IsReading all (drop n all) k → Some k ≡ known_in_turn ts nothing_known all
   over all k n len r = (subst (λ (left : List Seen). IsReading all left k) (drop_of_length-le all len) r).rest

@@ -1,7 +1,7 @@
 pub mod Firsts
 pub mod Fresh
+pub mod InTurn
 pub mod ListedAs
-pub mod LiveFrom
 pub mod Numbered
 pub mod OneEvent
 pub mod ReadBack

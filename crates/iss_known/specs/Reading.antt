@@ -1,8 +1,5 @@
 -- How what is known grows with each event of a state.
-use Rattle.std.specs.Prelude.{◌≡◌, ℕ, suc, Bool, true, false, ◌&&◌, List, [], ◌∷◌, ◌++◌, find, Option, Some, None, is_some, option_map, unwrap_or, if◌then◌else◌}
-use Rattle.std.specs.BTreeMap.{BTreeMap, get}
-use Rattle.std.specs.Cmp.Lexicographic.{slice_cmp}
-use Rattle.std.specs.Ordering.{nat_cmp}
+use Rattle.std.specs.Prelude.{◌≡◌, ℕ, suc, Bool, true, false, ◌&&◌, List, [], ◌∷◌, ◌++◌, find, Option, Some, None, is_some, length, option_and_then, option_map, slice_get, unwrap_or, if◌then◌else◌}
 use Rattle.std.specs.Str.{bytes_eq}
 use Rattle.iss_model.specs.declared.call.CallState.{CallState}
 use Rattle.iss_model.specs.declared.decision.Verdict.{Verdict}
@@ -93,9 +90,13 @@ first_ask_known k p = authorization_ask (facts_known k p.number) p.token p.card 
 abbrev pub live_among : List Carried → List ℕ → Option Bool
 live_among ts token = option_map (λ t. t.sums.live) (carried_named token ts)
 
--- what a tree says of each token
-abbrev pub live_in : BTreeMap (List ℕ) Bool → List ℕ → Option Bool
-live_in live = get (slice_cmp nat_cmp) live
+-- whether a transaction is live, if it has this token
+abbrev pub live_if_named : List ℕ → Carried → Option Bool
+live_if_named token t = if bytes_eq t.txn token then Some t.sums.live else None
+
+-- whether the transaction at this place is live, if it has this token
+abbrev pub live_at : List Carried → ℕ → List ℕ → Option Bool
+live_at ts place token = option_and_then (live_if_named token) (slice_get ts place)
 
 -- the transaction that an ask begins, by what is said of each token
 abbrev pub begun_by : (List ℕ → Option Bool) → Ask → List TxnNow
@@ -141,6 +142,12 @@ makes_its_call k e = let settled = settled_known k e.verdict e.body.input in is_
 abbrev pub known_from : (List ℕ → Option Bool) → KnownNow → List Seen → Option KnownNow
 known_from live k [] = Some k
 known_from live k (e ∷ es) = if makes_its_call k e then known_from live (known_after live k e) es else None
+
+-- the same, but a transaction only begins if it is the next listed one
+abbrev pub known_in_turn : List Carried → KnownNow → List Seen → Option KnownNow
+known_in_turn ts k [] = Some k
+known_in_turn ts k (e ∷ es) =
+    if makes_its_call k e then known_in_turn ts (known_after (live_at ts (length k.txns)) k e) es else None
 
 -- a transaction is the listed one, and live as it is there
 abbrev pub is_listed_as : Carried → TxnNow → Bool

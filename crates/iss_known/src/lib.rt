@@ -8,7 +8,6 @@ mod asks;
 mod calls;
 mod controls;
 mod known;
-mod listed;
 mod parts;
 mod products;
 mod reading;

@@ -1,5 +1,5 @@
 //! What is known so far, and what one event adds to it.
-ghost use Rattle.std.specs.Prelude.{◌≡◌, ◌++◌, [], None, Some, IsTrue, IfOk, OnOk, option_map, unwrap_or};
+ghost use Rattle.std.specs.Prelude.{◌≡◌, ◌++◌, [], None, Some, IsTrue, IfOk, OnOk, length, option_map, unwrap_or};
 ghost use Rattle.iss_model.specs.Forms.{is_stamp, is_in_form};
 ghost use Rattle.iss_model.specs.Inputs.{event_token};
 ghost use Rattle.iss_model.specs.rules.Activity.{txn_named};
@@ -7,20 +7,20 @@ ghost use Rattle.iss_model.specs.rules.Settings.{first_card_state};
 ghost use Rattle.iss_model.specs.rules.Stepping.{increment_ask};
 ghost use Rattle.iss_states.specs.Order.{is_event_record};
 ghost use Rattle.iss_states.specs.Rebuilding.{ask_of_event, is_done};
-ghost use Rattle.iss_known.specs.Reading.{ask_made, facts_known, first_ask_known, is_of_call, live_in, with_begun, with_called};
+ghost use Rattle.iss_known.specs.Reading.{ask_made, facts_known, first_ask_known, is_of_call, live_at, with_begun, with_called};
 ghost use Rattle.iss_known.specs.Reading.{known_after, known_in, makes_its_call, nothing_known, settled_known, with_first, with_name, with_setting_known};
 
 use crate::asks::{Asked, Purchase};
 use crate::calls::{CallKnown, Calls, how_of_mark};
 use crate::controls::{ControlKnown, Controls};
 use crate::products::{Sold, default_product};
-use crate::txns::Txns;
+use crate::txns::{Txns, live_at};
 use iss_index::{Index, Names};
 use iss_model::{
-    CallState, Card, CardState, Input, Named, Opened, Product, Record, Seen, Token, Verdict,
+    CallState, Card, CardState, Carried, Input, Named, Opened, Product, Record, Seen, Token,
+    Verdict,
 };
 use std::alloc::{AllocError, Global};
-use std::collections::BTreeMap;
 
 /// Users, cards, products, controls and sets, each the first of its name, and the transactions and the calls.
 #[derive(Drop)]
@@ -52,22 +52,31 @@ impl Parts {
         })
     }
 
-    /// Takes an event up. Returns whether its mark is that of a call, if it has one.
+    /// How many transactions have begun.
+    pub(crate) fn begun(&self) -> usize
+        ensures { result ≡ length (known_in self.now).txns }
+    {
+        self.txns.as_slice().len()
+    }
+
+    /// Takes an event up. Its transaction begins if it is the listed one at this place. Returns whether its mark is that of a call,
+    /// if it has one.
     pub(crate) fn take_up(
         &mut self,
-        live: &BTreeMap<Token, bool>,
+        listed: &[Carried],
+        place: usize,
         seen: &Seen,
     ) -> Result<bool, AllocError>
         requires form { IsTrue (is_event_record seen.now) }
         requires fresh { txn_named (unwrap_or (event_token seen.now.body.input) []) (known_in self.old).txns ≡ None }
-        ensures taken { OnOk result (known_in self.new ≡ known_after (live_in live.now) (known_in self.old) seen.now) }
+        ensures taken { OnOk result (known_in self.new ≡ known_after (live_at listed.now place) (known_in self.old) seen.now) }
         ensures called { IfOk result (λ called. called ≡ makes_its_call (known_in self.old) seen.now) }
     {
         self.settle(&seen.verdict, &seen.body.input)?;
         match self.ask(seen.number, &seen.body) {
             None => Ok(seen.mark.is_none()),
             Some(ask) => {
-                self.begin(live, &ask)?;
+                self.begin(listed, place, &ask)?;
                 self.answer(&seen.mark, &ask)
             }
         }
@@ -188,17 +197,17 @@ impl Parts {
         })
     }
 
-    /// Begins the transaction of an authorisation if it is listed.
-    fn begin(&mut self, live: &BTreeMap<Token, bool>, ask: &Asked) -> Result<(), AllocError>
+    /// Begins the transaction of an authorisation if it is the listed one at this place.
+    fn begin(&mut self, listed: &[Carried], place: usize, ask: &Asked) -> Result<(), AllocError>
         requires fresh { IsTrue ask.now.first → txn_named ask.now.txn.token (known_in self.old).txns ≡ None }
-        ensures { OnOk result (known_in self.new ≡ with_begun (live_in live.now) (known_in self.old) (ask_made ask.now)) }
+        ensures { OnOk result (known_in self.new ≡ with_begun (live_at listed.now place) (known_in self.old) (ask_made ask.now)) }
     {
         if !ask.first {
             return Ok(());
         }
-        match live.get(&ask.txn.token) {
+        match live_at(listed, place, &ask.txn.token) {
             None => Ok(()),
-            Some(live) => self.txns.add(&ask.txn, *live),
+            Some(live) => self.txns.add(&ask.txn, live),
         }
     }
 

@@ -2,7 +2,7 @@
 ghost use Rattle.std.specs.Prelude.{◌≡◌, [], ◌∷◌, ◌++◌, None, map, option_map, OnOk, OnErr};
 ghost use Rattle.iss_model.specs.rules.Activity.{txn_named};
 ghost use Rattle.iss_well_formed.specs.Events.{both_or_neither};
-ghost use Rattle.iss_known.specs.Reading.{are_listed, is_listed_as};
+ghost use Rattle.iss_known.specs.Reading.{are_listed, is_listed_as, live_at, live_if_named};
 
 use iss_index::Names;
 use iss_model::{Carried, Token, Txn};
@@ -88,6 +88,24 @@ impl Txns {
         ensures { result ≡ are_listed txns.now self.now }
     {
         are_listed(txns, &self.list)
+    }
+}
+
+/// Whether the listed transaction at a place is live, or `None` if it hasn't this token.
+pub(crate) fn live_at(listed: &[Carried], place: usize, token: &Token) -> Option<bool>
+    ensures { result ≡ live_at listed.now place token.now }
+{
+    let next = listed.get(place)?;
+    live_if_named(next, token)
+}
+
+fn live_if_named(carried: &Carried, token: &Token) -> Option<bool>
+    ensures { result ≡ live_if_named token.now carried.now }
+{
+    if carried.txn == *token {
+        Some(carried.sums.live)
+    } else {
+        None
     }
 }
 

@@ -1,3 +1,8 @@
+mod CountedAgain
+pub mod Regrouped
+pub mod TxnSumsAgain
+mod WithinAgain
+pub mod CoresAgain
 mod Pushed
 mod OriginsRise
 mod RestoredAgain

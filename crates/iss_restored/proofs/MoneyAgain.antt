@@ -22,8 +22,8 @@ use Rattle.iss_noticed.specs.Commitments.{held_together}
 use Rattle.iss_sound.specs.Sound.{IsSoundButSettings}
 use Rattle.iss_chain.specs.Values.{ChainNow, chain_part, no_chain}
 use Rattle.iss_least.proofs.EventWeights.{approved_by, asked_by, done_by, events_fit, total_by}
-use Rattle.iss_sound_cores.proofs.Regrouped.{approved_regrouped, cleared_regrouped, over_tokens}
-use Rattle.iss_sound_cores.proofs.TxnSumsAgain.{AreSumsSmall, held_by_approved, owed_within, shares_regrouped, shares_size, sums_small, within_more}
+use Rattle.iss_restored.proofs.Regrouped.{approved_regrouped, cleared_regrouped, over_tokens}
+use Rattle.iss_restored.proofs.TxnSumsAgain.{AreSumsSmall, held_by_approved, owed_within, shares_regrouped, shares_size, sums_small, within_more}
 use Rattle.iss_restored.specs.Again.{AreRestorable, AreSmallSaldos, restored_from, with_saldo}
 use Rattle.iss_restored.proofs.BalancesSet.{balances_set, each_balance}
 use Rattle.iss_restored.proofs.OriginsRise.{origins_rise}

@@ -15,7 +15,7 @@ use Rattle.iss_well_formed.proofs.FairAgain.{got}
 use Rattle.iss_noticed.specs.Commitments.{held_together}
 use Rattle.iss_chain.specs.Entering.{IsChainSmall}
 use Rattle.iss_chain.specs.Values.{ChainNow}
-use Rattle.iss_sound_cores.proofs.TxnSumsAgain.{AreSumsSmall, amounts_within, found_within, held_within}
+use Rattle.iss_restored.proofs.TxnSumsAgain.{AreSumsSmall, amounts_within, found_within, held_within}
 use Rattle.iss_restored.specs.Again.{AreRestorable}
 use Rattle.iss_restored.proofs.OriginsRise.{Rise, none_began, rise_last}
 use Rattle.iss_restored.proofs.RestoredAgain.{AreListed, chain_made, its_own, listed_more, none_before, one_restored}

@@ -2,7 +2,7 @@
 use Rattle.std.proofs.Common.{◌↔◌, ◌≤◌, ℕ, Bool, IsTrue, subst, sym}
 use Rattle.iss_model.specs.declared.state.State.{State}
 use Rattle.iss_noticed.specs.Commitments.{most_of_records}
-use Rattle.iss_sound_txns.proofs.Committed.{committed_is_open}
+use Rattle.iss_sound_parts.proofs.Committed.{committed_is_open}
 use Rattle.iss_known.specs.Known.{IsReadAgain}
 use Rattle.iss_sound_events.specs.Alone.{AreSoundAlone}
 use Rattle.iss_sound_events.specs.Done.{HasSumsDone}

@@ -5,12 +5,12 @@ use Rattle.iss_noticed.specs.Commitments.{most_of_records}
 use Rattle.iss_bounded.specs.Bounds.{open_amount}
 use Rattle.iss_known.specs.Known.{IsReadAgain}
 use Rattle.iss_sound_balances.specs.Sound.{AreBalancesSound}
-use Rattle.iss_sound_counters.specs.Sound.{AreCountersSound}
+use Rattle.iss_sound_parts.specs.SoundCounters.{AreCountersSound}
 use Rattle.iss_sound_events.specs.Alone.{AreSoundAlone}
 use Rattle.iss_sound_events.specs.Done.{HasSumsDone}
-use Rattle.iss_sound_notices.specs.Sound.{AreNoticesSound, AreStandInsSound}
-use Rattle.iss_sound_txns.specs.Txns.{AreTxnsSound}
-use Rattle.iss_sound_verdicts.specs.Sound.{AreVerdictsSound}
+use Rattle.iss_sound_parts.specs.SoundNotices.{AreNoticesSound, AreStandInsSound}
+use Rattle.iss_sound_parts.specs.Txns.{AreTxnsSound}
+use Rattle.iss_sound_parts.specs.SoundVerdicts.{AreVerdictsSound}
 
 -- The lists of sums and the notices of a state are sound.
 pub record AreListsSound (s : State) : Type 0 where

@@ -4,18 +4,18 @@ ghost use Rattle.iss_states.specs.Rebuilding.{rebuilt};
 ghost use Rattle.iss_known.specs.Known.{IsKnownOf, IsReadAgain};
 ghost use Rattle.iss_sound_events.specs.Alone.{AreSoundAlone};
 ghost use Rattle.iss_sound_events.specs.Done.{HasSumsDone};
-ghost use Rattle.iss_sound_txns.specs.Totals.{IsOpenIn};
+ghost use Rattle.iss_sound_parts.specs.Totals.{IsOpenIn};
 ghost use Rattle.iss_sound.specs.Parts.{AreListsSound, IsSoundBeside, IsSoundInParts};
 ghost use Rattle.iss_sound.specs.Sound.{IsSoundButSettings};
 
 use iss_known::Known;
 use iss_model::State;
 use iss_sound_balances::are_balances_sound;
-use iss_sound_counters::are_counters_sound;
 use iss_sound_events::{are_events_sound, are_sums_done};
-use iss_sound_notices::{are_notices_sound, are_stand_ins_sound};
-use iss_sound_txns::{Asked, Open, are_txns_sound, open_in};
-use iss_sound_verdicts::are_verdicts_sound;
+use iss_sound_parts::{
+    Asked, Open, are_counters_sound, are_notices_sound, are_stand_ins_sound, are_txns_sound,
+    are_verdicts_sound, open_in,
+};
 use std::alloc::{AllocError, Global};
 
 /// Whether a state is sound, but for its settings: all rules of a sound state but that each setting and each load is decided as those before

@@ -32,6 +32,7 @@ use Rattle.iss_model.specs.rules.CardReasons.{is_account_funded}
 use Rattle.iss_model.specs.state.Kept.{Kept, after_change, kept_at, nothing_kept}
 use Rattle.iss_model.proofs.Names.{one_name}
 use Rattle.iss_state.proofs.effects.Finds.{number_is, same_number}
+use Rattle.iss_ledger.specs.Posts.{after_post}
 use Rattle.iss_states.specs.Keys.{last_number}
 use Rattle.iss_states.specs.Rebuilding.{is_done}
 use Rattle.iss_well_formed.proofs.FairAgain.{found_at}
@@ -131,8 +132,8 @@ AddUp c m = total (is_key_in c) (finite.entries m) ≡ pos 0
 abbrev is_in_one : Move → Bool
 is_in_one x = same_currency (account_currency x.from) (account_currency x.to)
 
-move_adds_up : (c : Currency) (m : Kept) (x : Move) → is_in_one x ≡ true → AddUp c m → AddUp c (after_move m x)
-move_adds_up c m x within h =
+post_adds_up : (c : Currency) (m : Kept) (x : Move) → is_in_one x ≡ true → AddUp c m → AddUp c (after_post m x.from x.to x.amount)
+post_adds_up c m x within h =
     let given : Kept = after_change m (record { key = account_key x.to; by = pos x.amount }) in
     total_change (is_key_in c) given (record { key = account_key x.from; by = neg_ℤ (pos x.amount) })
     ∙ ap (λ (z : ℤ). z +ℤ amount_if (is_key_in c (account_key x.from)) (neg_ℤ (pos x.amount))) (total_change (is_key_in c) m (record { key = account_key x.to; by = pos x.amount }))
@@ -144,6 +145,13 @@ move_adds_up c m x within h =
     sum false false n z e f = omega (arith, ints, e)
     sum true false n z e f = cc
     sum false true n z e f = cc
+
+move_adds_up : (c : Currency) (m : Kept) (x : Move) → is_in_one x ≡ true → AddUp c m → AddUp c (after_move m x)
+move_adds_up c m x within h = by (x.amount == 0)
+  where
+    by : (b : Bool) → AddUp c (cond b m (after_post m x.from x.to x.amount))
+    by true = h
+    by false = post_adds_up c m x within h
 
 moves_add_up : (c : Currency) (m : Kept) (xs : List Move) → list_all is_in_one xs ≡ true → AddUp c m → AddUp c (after_moves m xs)
 moves_add_up c m [] within h = h

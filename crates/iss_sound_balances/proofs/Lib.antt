@@ -1,6 +1,7 @@
 pub mod FewAccounts
 pub mod RisingKeys
 pub mod Owing
+pub mod Nothing
 pub mod MovesTotal
 pub mod TakenOut
 pub mod AddingUp

@@ -30,7 +30,6 @@ use Rattle.iss_model.specs.rules.CardReasons.{is_account_funded}
 use Rattle.iss_model.specs.rules.Settings.{is_named_in}
 use Rattle.iss_model.specs.state.Kept.{AreSmall, IsSmall, Kept, kept_at, nothing_kept}
 use Rattle.iss_model.specs.texts.Spelling.{has_spelling, is_record, tokens_of}
-use Rattle.iss_model.proofs.KeptSums.{kept_at-after_changes}
 use Rattle.iss_model.proofs.Lists.{map-map}
 use Rattle.iss_model.proofs.Names.{name-sym, one_name}
 use Rattle.iss_state.specs.Stakes.{are_distinct}
@@ -45,7 +44,7 @@ use Rattle.iss_decided.specs.Approved.{AreApproved, AreWithinApproved, IsWithinA
 use Rattle.iss_decided.specs.Verdicts.{do_parts_agree, goes_with_part, permits_this_part}
 use Rattle.iss_bounded.proofs.OpenLoad.{tokens_distinct}
 use Rattle.iss_sound_balances.specs.Moves.{AllStaySmall, Move, OwedStaySmall, StaySmall, after_all, after_loads, after_move, after_moves, input_moves, listed_moves, load_moves, txn_moves, txn_moves_by}
-use Rattle.iss_sound_balances.proofs.Owing.{changes_of}
+use Rattle.iss_sound_balances.proofs.Owing.{kept_move}
 
 -- how much is moved ----
 
@@ -73,9 +72,9 @@ within_small n m h few key = one (kept_at m key) (h.low key) (h.high key)
 within_move : (n : ℕ) (m : Kept) (x : Move) → IsWithin n m → IsWithin (n + x.amount) (after_move m x)
 within_move n m x h =
     record {
-      low = λ key. let e = kept_at-after_changes m (changes_of x) key in
+      low = λ key. let e = kept_move m key x in
           low (bytes_eq (account_key x.to) key) (bytes_eq (account_key x.from) key) (kept_at m key) x.amount (kept_at (after_move m x) key) e (h.low key);
-      high = λ key. let e = kept_at-after_changes m (changes_of x) key in
+      high = λ key. let e = kept_move m key x in
           high (bytes_eq (account_key x.to) key) (bytes_eq (account_key x.from) key) (kept_at m key) x.amount (kept_at (after_move m x) key) e (h.high key);
     }
   where

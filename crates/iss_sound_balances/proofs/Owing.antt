@@ -1,10 +1,11 @@
 -- What moves come to at an account: what it is owed.
-use Rattle.std.proofs.Common.{◌≡◌, ◌∙◌, ◌∷◌, ◌+◌, ◌&&◌, ◌+ℤ◌, ℕ, ℤ, pos, neg_ℤ, ap, ap₂, arith, Bool, cond, false, List, [], refl, sym, true}
+use Rattle.std.proofs.Common.{◌≡◌, ◌∙◌, ◌∷◌, ◌+◌, ◌&&◌, ◌==◌, ◌+ℤ◌, ℕ, ℤ, pos, neg_ℤ, ap, ap₂, arith, Bool, cond, false, List, [], refl, sym, true}
 use Rattle.std.specs.Prelude.{Option, Some, None, option_map, unwrap_or}
 use Rattle.std.specs.Ordering.{nat_cmp}
 use Rattle.std.specs.Cmp.Lexicographic.{slice_cmp}
 use Rattle.std.specs.FinMap as finite
 use Rattle.std.specs.Str.{bytes_eq}
+use Rattle.std.proofs.lemmas.Bool.Decides.{nat_tests}
 use Rattle.std.proofs.lemmas.Int.{ints}
 use Rattle.iss_model.specs.declared.account.Account.{Account}
 use Rattle.iss_model.specs.declared.account.Account.TheVariants as account
@@ -23,6 +24,7 @@ use Rattle.iss_model.specs.rules.Activity.{TxnNow, txn_named}
 use Rattle.iss_model.specs.rules.CardReasons.{is_account_funded}
 use Rattle.iss_model.specs.state.Kept.{Kept, kept_at, nothing_kept}
 use Rattle.iss_model.proofs.KeptSums.{kept_at-after_changes}
+use Rattle.iss_ledger.specs.Posts.{after_post}
 use Rattle.iss_states.specs.Rebuilding.{is_done}
 use Rattle.iss_balanced.specs.Owed.{loaded_in, loaded_to, loads_give, share_of, txns_total}
 use Rattle.iss_balanced.proofs.Shares.{amounts_of, four_of, given, share_is, tests_of, user_test}
@@ -48,11 +50,29 @@ none_more z = omega (arith, ints)
 regrouped : (a b c : ℤ) → (a +ℤ b) +ℤ c ≡ a +ℤ (b +ℤ c)
 regrouped a b c = omega (arith, ints)
 
+-- a move changes what is kept at a key, or nothing goes
+pub kept_move : (m : Kept) (key : List ℕ) (x : Move) → kept_at (after_move m x) key ≡ kept_at m key +ℤ changed_at key (changes_of x)
+kept_move m key x = by (x.amount == 0) refl
+  where
+    zero_is : (n : ℕ) → (n == 0) ≡ true → n ≡ 0
+    zero_is n h = grind (arith, nat_tests)
+
+    none : (a b : Bool) (z : ℤ) (n : ℕ) → n ≡ 0 → z ≡ z +ℤ (cond a (pos n) (pos 0) +ℤ (cond b (neg_ℤ (pos n)) (pos 0) +ℤ pos 0))
+    none true true z n e = omega (arith, ints, e)
+    none true false z n e = omega (arith, ints, e)
+    none false true z n e = omega (arith, ints, e)
+    none false false z n e = omega (arith, ints, e)
+
+    by : (b : Bool) → (x.amount == 0) ≡ b
+        → kept_at (cond b m (after_post m x.from x.to x.amount)) key ≡ kept_at m key +ℤ changed_at key (changes_of x)
+    by true e = none (bytes_eq (account_key x.to) key) (bytes_eq (account_key x.from) key) (kept_at m key) x.amount (zero_is x.amount e)
+    by false e = kept_at-after_changes m (changes_of x) key
+
 kept_moves : (m : Kept) (key : List ℕ) (xs : List Move) → kept_at (after_moves m xs) key ≡ kept_at m key +ℤ moved_at key xs
 kept_moves m key [] = none_more (kept_at m key)
 kept_moves m key (x ∷ xs) =
     kept_moves (after_move m x) key xs
-    ∙ ap (λ (z : ℤ). z +ℤ moved_at key xs) (kept_at-after_changes m (changes_of x) key)
+    ∙ ap (λ (z : ℤ). z +ℤ moved_at key xs) (kept_move m key x)
     ∙ regrouped (kept_at m key) (changed_at key (changes_of x)) (moved_at key xs)
 
 kept_all : {A : Type 0} (moves : A → List Move) (m : Kept) (key : List ℕ) (xs : List A) → kept_at (after_all moves m xs) key ≡ kept_at m key +ℤ all_moved key moves xs

@@ -1,5 +1,5 @@
 -- What accounts are owed, as amounts that go from one account to another.
-use Rattle.std.specs.Prelude.{ℕ, Bool, List, [], ◌∷◌, fold, option_map, unwrap_or, if◌then◌else◌}
+use Rattle.std.specs.Prelude.{ℕ, Bool, ◌&&◌, ◌==◌, List, [], ◌∷◌, fold, option_map, unwrap_or, if◌then◌else◌}
 use Rattle.iss_model.specs.declared.account.Account.{Account}
 use Rattle.iss_model.specs.declared.account.Account.TheVariants as account
 use Rattle.iss_model.specs.declared.input.Input.{Input}
@@ -26,9 +26,9 @@ pub record Move : Type 0 where
 abbrev pub move : Account → Account → ℕ → Move
 move from to amount = record { from = from; to = to; amount = amount }
 
--- the balances after a move
+-- the balances after a move, which stay as they are if nothing goes
 abbrev pub after_move : Kept → Move → Kept
-after_move sums x = after_post sums x.from x.to x.amount
+after_move sums x = if x.amount == 0 then sums else after_post sums x.from x.to x.amount
 
 -- the balances after these moves
 abbrev pub after_moves : Kept → List Move → Kept
@@ -70,6 +70,10 @@ txn_moves_by own t x =
 -- so by the funding of the transaction
 abbrev pub txn_moves : Txn → TxnSums → List Move
 txn_moves t x = txn_moves_by (is_account_funded t.funding) t x
+
+-- sums of a transaction move nothing, whoever pays it
+abbrev pub move_nothing : TxnSums → Bool
+move_nothing x = x.cleared == 0 && x.refunded == 0 && x.paid == 0 && x.g == 0 && x.p == 0
 
 -- what a listed transaction moves, if it is among these
 abbrev pub listed_moves : List TxnNow → Carried → List Move

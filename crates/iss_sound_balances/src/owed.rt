@@ -2,8 +2,9 @@
 ghost use Rattle.std.specs.Prelude.{◌≡◌, OnOk, IfOk};
 ghost use Rattle.iss_model.specs.rules.CardReasons.{is_account_funded};
 ghost use Rattle.iss_model.specs.rules.Pieces.{user_account};
+ghost use Rattle.iss_model.specs.state.Kept.{AreSmall};
 ghost use Rattle.iss_states.specs.Rebuilding.{is_done};
-ghost use Rattle.iss_sound_balances.specs.Moves.{AllStaySmall, OwedStaySmall, StaySmall, after_all, after_moves, held_moves_by, input_moves, listed_moves, load_moves, owed_kept, payer_by, txn_moves};
+ghost use Rattle.iss_sound_balances.specs.Moves.{AllStaySmall, OwedStaySmall, StaySmall, after_all, after_move, after_moves, held_moves_by, input_moves, listed_moves, load_moves, move, move_nothing, owed_kept, payer_by, txn_moves};
 
 use iss_known::Known;
 use iss_ledger::Ledger;
@@ -23,6 +24,17 @@ pub(crate) fn owed_balances(
     give_loads(&mut owed, &state.events.0)?;
     give_txns(&mut owed, &state.txns.0, known)?;
     Ok(owed)
+}
+
+/// Moves an amount from one account to another. If it is 0, no account is looked up.
+fn give(owed: &mut Ledger, from: &Account, to: &Account, amount: u64) -> Result<(), AllocError>
+    requires { AreSmall (after_move owed.old (move from.now to.now amount)) }
+    ensures { OnOk result (owed.new ≡ after_move owed.old (move from.now to.now amount)) }
+{
+    if amount == 0 {
+        return Ok(());
+    }
+    owed.post(from, to, amount)
 }
 
 /// Moves what the loads among these events moved.
@@ -64,7 +76,8 @@ fn give_input(owed: &mut Ledger, input: &Input) -> Result<(), AllocError>
             currency,
             amount,
             ..
-        } => owed.post(
+        } => give(
+            owed,
             &Account::Programme(*currency),
             &Account::User(*user, *currency),
             *amount,
@@ -84,11 +97,21 @@ fn give_txns(owed: &mut Ledger, txns: &[Carried], known: &Known) -> Result<(), A
     Ok(())
 }
 
+/// Whether sums of a transaction move nothing, as those of a purchase that is only held of its user's own money.
+fn move_nothing(sums: &TxnSums) -> bool
+    ensures { result ≡ move_nothing sums.now }
+{
+    sums.cleared == 0 && sums.refunded == 0 && sums.paid == 0 && sums.g == 0 && sums.p == 0
+}
+
 /// Moves what a listed transaction moved, if it is known.
 fn give_listed(owed: &mut Ledger, carried: &Carried, known: &Known) -> Result<(), AllocError>
     requires { StaySmall owed.old (listed_moves known.now.txns carried.now) }
     ensures { OnOk result (owed.new ≡ after_moves owed.old (listed_moves known.now.txns carried.now)) }
 {
+    if move_nothing(&carried.sums) {
+        return Ok(());
+    }
     match known.txn(&carried.txn) {
         Some(now) => give_txn(owed, &now.txn, &carried.sums),
         None => Ok(()),
@@ -102,10 +125,10 @@ fn give_txn(owed: &mut Ledger, txn: &Txn, sums: &TxnSums) -> Result<(), AllocErr
 {
     let payer = payer(txn);
     let network = Account::Network(txn.currency);
-    owed.post(&payer, &network, sums.cleared)?;
-    owed.post(&network, &payer, sums.refunded)?;
+    give(owed, &payer, &network, sums.cleared)?;
+    give(owed, &network, &payer, sums.refunded)?;
     let programme = Account::Programme(txn.currency);
-    owed.post(&programme, &Account::Gateway(txn.currency), sums.paid)?;
+    give(owed, &programme, &Account::Gateway(txn.currency), sums.paid)?;
     give_held(owed, txn, sums)
 }
 
@@ -134,8 +157,8 @@ fn give_held(owed: &mut Ledger, txn: &Txn, sums: &TxnSums) -> Result<(), AllocEr
         Funding::Account => Ok(()),
         Funding::Gateway => {
             let gateway = Account::Gateway(txn.currency);
-            owed.post(&gateway, &user_account(txn), sums.g)?;
-            owed.post(&gateway, &user_account(txn), sums.p)
+            give(owed, &gateway, &user_account(txn), sums.g)?;
+            give(owed, &gateway, &user_account(txn), sums.p)
         }
     }
 }

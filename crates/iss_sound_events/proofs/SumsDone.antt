@@ -1,6 +1,6 @@
 -- What a test of sums says is what is asked of them.
 use Rattle.std.proofs.Common.{◌≡◌, ◌≤◌, ◌∙◌, ◌+◌, ℕ, Bool, true, false, cond, List, [], ◌∷◌, nat_le, refl, sym, ap, ap₂, arith}
-use Rattle.std.specs.Prelude.{◌↔◌, ◌&&◌, ◌==◌, Option, Some, None, IsTrue, is_some}
+use Rattle.std.specs.Prelude.{◌↔◌, ◌&&◌, ◌==◌, Option, Some, None, IsTrue, is_none, is_some}
 use Rattle.std.specs.List.{list_all}
 use Rattle.std.specs.Str.{bytes_eq}
 use Rattle.std.proofs.lemmas.Bool.{and_parts, eqb-true, le-leb, leb-true}
@@ -20,7 +20,7 @@ use Rattle.iss_well_formed.specs.Txns.{AreWhatWasDone, HasNothingDone, cleared_a
 use Rattle.iss_decided.specs.Approved.{AreWithinApproved, approved_total}
 use Rattle.iss_sound_events.specs.declared.totals.Total.{Total}
 use Rattle.iss_sound_events.specs.Alone.{AreSoundAlone}
-use Rattle.iss_sound_events.specs.Done.{AreNamesOf, HasSumsDone, are_sums_done, done_in, done_txn, is_among_if_done, is_as_done, is_as_total, is_as_totalled, is_listed_if_done, is_none_or_passes, is_within_approved, settled_txn}
+use Rattle.iss_sound_events.specs.Done.{AreNamesOf, HasSumsDone, are_sums_done, done_in, done_txn, is_among_if_done, is_as_done, is_as_total, is_as_totalled, is_listed_if_done, is_none_or_passes, is_within_approved, settled_txn, settles_nothing}
 use Rattle.iss_sound_events.specs.Totals.{AreTotalsOf, total_of}
 use Rattle.iss_sound_events.proofs.Sized.{form_of}
 
@@ -39,6 +39,17 @@ among_listed names ts (e ∷ es) are =
     ap₂ (λ (a b : Bool). a && b)
     (same_passes (λ token. is_some (place_of token names)) (λ token. is_some (carried_named token ts)) (done_txn e.verdict e.body.input) are)
     (among_listed names ts es are)
+
+-- if no event is a done clearing or refund, each such one is of a listed transaction
+pub none_settled : (ts : List Carried) (es : List Seen) → list_all settles_nothing es ≡ true → true ≡ list_all (is_listed_if_done ts) es
+none_settled ts [] none = refl
+none_settled ts (e ∷ es) none =
+    let both = and_parts (settles_nothing e) (list_all settles_nothing es) none in
+    ap₂ (λ (a b : Bool). a && b) (its (done_txn e.verdict e.body.input) both.0) (none_settled ts es both.1)
+  where
+    its : (o : Option (List ℕ)) → is_none o ≡ true → true ≡ is_none_or_passes (λ token. is_some (carried_named token ts)) o
+    its None h = refl
+    its (Some token) h = cc
 
 -- nothing is done of a transaction that isn't listed ----
 

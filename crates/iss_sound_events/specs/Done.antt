@@ -1,5 +1,5 @@
 -- What a test says of the sums of a state's transactions.
-use Rattle.std.specs.Prelude.{◌≡◌, ℕ, ◌+◌, Bool, true, ◌&&◌, ◌||◌, ◌==◌, nat_le, List, Option, Some, None, is_some, if◌then◌else◌}
+use Rattle.std.specs.Prelude.{◌≡◌, ℕ, ◌+◌, Bool, true, ◌&&◌, ◌||◌, ◌==◌, nat_le, List, Option, Some, None, is_none, is_some, if◌then◌else◌}
 use Rattle.std.specs.List.{list_all}
 use Rattle.std.specs.Str.{bytes_eq}
 use Rattle.iss_model.specs.declared.decision.Verdict.{Verdict}
@@ -59,6 +59,10 @@ settled_txn _ = None
 -- the transaction of a clearing or a refund, if it was done
 abbrev pub done_txn : Option Verdict → Input → Option (List ℕ)
 done_txn v i = if is_done v then settled_txn i else None
+
+-- an event is no done clearing or refund
+abbrev pub settles_nothing : Seen → Bool
+settles_nothing e = is_none (done_txn e.verdict e.body.input)
 
 -- there is no name, or it passes this test
 abbrev pub is_none_or_passes : (List ℕ → Bool) → Option (List ℕ) → Bool

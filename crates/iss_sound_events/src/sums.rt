@@ -7,7 +7,7 @@ ghost use Rattle.iss_sound_events.specs.Alone.{AreSoundAlone};
 ghost use Rattle.iss_sound_events.specs.Done.{HasSumsDone, are_sums_done, is_as_total, is_as_totalled, is_within_approved};
 ghost use Rattle.iss_sound_events.specs.Totals.{is_small_seen};
 
-use crate::listed::{are_done_of_listed, names_of};
+use crate::listed::are_done_listed;
 use crate::totals::{Total, total_of, totals_of};
 use iss_index::Index;
 use iss_model::{Carried, Seen, State, TxnSums};
@@ -23,14 +23,13 @@ pub fn are_sums_done(alloc: Global, state: &State) -> Result<bool, AllocError>
     are_as_done(alloc, &state.events.0, &state.txns.0)
 }
 
-#[tactic(auto, using(crate::proofs::SumsDone::among_listed, crate::proofs::SumsDone::totalled_done))]
+#[tactic(auto, using(crate::proofs::SumsDone::totalled_done))]
 fn are_as_done(alloc: Global, events: &[Seen], txns: &[Carried]) -> Result<bool, AllocError>
     requires few { length events.now ≤ MOST_RECORDS }
     requires small { list_all is_small_seen events.now ≡ true }
     ensures { IfOk result (λ done. done ≡ are_sums_done events.now txns.now) }
 {
-    let names = names_of(alloc, txns)?;
-    if !are_done_of_listed(&names, events) {
+    if !are_done_listed(alloc, events, txns)? {
         return Ok(false);
     }
     let totals = totals_of(alloc, events)?;

@@ -1,5 +1,0 @@
-mod CountedAgain
-pub mod Regrouped
-pub mod TxnSumsAgain
-mod WithinAgain
-pub mod CoresAgain

@@ -1,4 +1,0 @@
-pub mod Grouping
-pub mod Apart
-pub mod KeyOrder
-pub mod Passing

@@ -1,3 +1,0 @@
-mod StoodOrder
-mod StoodSums
-mod NoticeRules

@@ -1,3 +1,0 @@
-pub mod StandIns
-pub mod Notices
-pub mod Sound

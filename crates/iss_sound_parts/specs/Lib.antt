@@ -1,0 +1,13 @@
+pub mod Asking
+pub mod Totals
+pub mod Txns
+pub mod Verdicts
+pub mod SoundVerdicts
+pub mod Groups
+pub mod Rising
+pub mod Limits
+pub mod Passing
+pub mod SoundCounters
+pub mod StandIns
+pub mod Notices
+pub mod SoundNotices

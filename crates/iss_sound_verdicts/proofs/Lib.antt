@@ -1,3 +1,0 @@
-pub mod Started
-pub mod Told
-pub mod WellDecided
