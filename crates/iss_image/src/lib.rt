@@ -16,5 +16,6 @@ mod tokens;
 mod verdicts;
 
 pub use laws::images_are_read_again;
+pub use lookups::{CardMade, Purchase, WindowSet};
 pub use reading::read;
 pub use spelling::spell;

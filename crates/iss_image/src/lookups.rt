@@ -7,26 +7,26 @@ use iss_index::Index;
 use iss_model::{Currency, Input, Named, Seen, Token, Verdict, Window};
 use std::alloc::{AllocError, Global};
 
-/// A control and its window.
+/// A control that a done event sets, and its window.
 #[derive(Clone, Copy)]
-pub(crate) struct WindowSet {
-    control: Token,
-    window: Window,
+pub struct WindowSet {
+    pub control: Token,
+    pub window: Window,
 }
 
-/// A card and its user.
+/// A card that a done event makes, and its user.
 #[derive(Clone, Copy)]
-pub(crate) struct CardMade {
-    card: Token,
-    user: Token,
+pub struct CardMade {
+    pub card: Token,
+    pub user: Token,
 }
 
 /// A transaction with the card and the currency that it was asked for.
 #[derive(Clone, Copy)]
-pub(crate) struct Purchase {
-    txn: Token,
-    card: Token,
-    currency: Currency,
+pub struct Purchase {
+    pub txn: Token,
+    pub card: Token,
+    pub currency: Currency,
 }
 
 impl Named for WindowSet {
