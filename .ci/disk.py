@@ -13,9 +13,10 @@ from collections import namedtuple
 
 sys.path.insert(0, "examples/tools")
 sys.dont_write_bytecode = True
-from device_lines import FIRST_GATE, Body, bodies_of  # noqa: E402
+from device_lines import Body, Journal, bodies_of  # noqa: E402
 
-SIZE, INSTANCE = 1 << 17, 7
+# A device in halves, each of which has room for all that a run makes: no device turns here.
+SIZE, INSTANCE = 1 << 18, 7
 SECONDS = 60
 # A line that gets this text alone marks where the texts of the line before it end.
 MARK, MARKED = b"[]\n", b'{"fault":"JSON","reply":"form"}\n'
@@ -91,7 +92,8 @@ def record_line(action):
 
 def records_of(device):
     """The bytes of all records that stand, with their gates."""
-    return device[FIRST_GATE:max((end for _, end in bodies_of(device)), default=FIRST_GATE)]
+    gate = Journal(device).gate
+    return device[gate:max((end for _, end in bodies_of(device)), default=gate)]
 
 
 def torn(old, new, chance):

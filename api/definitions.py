@@ -249,6 +249,7 @@ def reply_schemas():
         "Conflict": text_of("The event's token stands with other fields, by the record of this number.",
                             **event, record=whole(1, 1073741823), reply={"const": "conflict"}),
         "Full": text_of("The record doesn't fit on the device.", free=count, need=count, reply={"const": "full"}),
+        "Spent": text_of("There are as many records as there may be.", reply={"const": "spent"}),
         "Late": text_of("The answer came after its call was closed, and this is how it was closed.",
                         call=ref("Number"), reply={"const": "late"}, state=words(*states)),
         "UnknownCall": text_of("There is no such call.", call=ref("Number"), reply={"const": "unknown"}),

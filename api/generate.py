@@ -73,7 +73,8 @@ def events():
                 "404": response("The path isn't `/events`.", ["HttpFault"], {"fault": "PATH", "reply": "http"}),
                 "409": response("The event's token stands with other fields. The same bytes will never do.",
                                 ["Conflict"], {"event": "a1", "record": 4, "reply": "conflict"}),
-                "507": response("The event's record doesn't fit on the device.", ["Full"], {"free": 18, "need": 20, "reply": "full"}),
+                "507": response("The event's record doesn't fit on the device, or it would be one more than there may be.",
+                                ["Full", "Spent"], {"free": 18, "need": 20, "reply": "full"}),
             },
         },
     }

@@ -46,7 +46,8 @@ int main(int count, char **words)
     int copy = open(words[2], O_RDWR);
     if (copy < 0)
         fail(words[2]);
-    size_t gate = 16;
+    // The first half of a device in halves begins at place 17, with the length of an image of no bytes.
+    size_t gate = 21;
     while (gate + 5 < size && device[gate] == 1) {
         unsigned char *at = device + gate + 1;
         size_t body = ((size_t)at[0] << 24) + (at[1] << 16) + (at[2] << 8) + at[3];

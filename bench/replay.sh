@@ -34,7 +34,8 @@ fresh() {
 # compare PLACE FOLDER COUNT: a line of the table, of so many lines on a device in the folder.
 compare() {
     local place=$1 folder=$2 count=$3 turn
-    size=$((count * 100 + 1000))
+    # Each half has room for all records.
+    size=$((count * 200 + 2000))
     purchases "$count" >"$room/lines"
     fresh "$folder"
     build/issuer replay "$folder/device" <"$room/lines" >"$room/texts"

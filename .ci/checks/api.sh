@@ -37,7 +37,7 @@ python3 .ci/api.py serve "$port" "$gateway_port"
 killed
 
 # A device without room.
-formatted 17
+formatted 27
 serve
 listening "$port" 'what serves'
 python3 .ci/api.py full "$port"

@@ -13,9 +13,9 @@ if ! command -v python3 >/dev/null; then
     exit 0
 fi
 
-# replayed DEVICE WHAT: a new device of 100000 bytes, on which standard input is replayed.
+# replayed DEVICE WHAT: a new device of 200000 bytes in halves, which never turns here, on which standard input is replayed.
 replayed() {
-    issue format "$1" 100000 0
+    issue format "$1" 200000 0
     ended "$2, formatted" 0 ''
     issue replay "$1" >"$room/out"
     ended "$2, replayed" 0 ''
@@ -63,7 +63,7 @@ done
 
 # A device of another instance gets the same records from them.
 name=a_day_of_a_gateway_product
-issue format "$room/again" 100000 9
+issue format "$room/again" 200000 9
 ended 'another instance' 0 ''
 issue replay "$room/again" <"$room/$name.lines" >"$room/out"
 ended 'another instance' 0 ''
@@ -89,7 +89,7 @@ altered() {
     printf '%b' "$2" | dd of="$room/altered" bs=1 seek="$1" conv=notrunc status=none
 }
 
-# The first example's device has records of 15, 27, 25 and 30 bytes, and its end gate at place 133.
+# The first example's device has records of 15, 27, 25 and 30 bytes from place 21 on, and its end gate at place 138.
 device=$room/first
 replayed "$device" 'the first example' <"$first_in"
 cat >"$room/lines" <<'END'
@@ -100,16 +100,55 @@ cat >"$room/lines" <<'END'
 END
 cat >"$room/stats" <<'END'
 records 4
-size_bytes 100000
-free_bytes 99866
-used_ratio 0.00134
+size_bytes 200000
+free_bytes 99869
+half_bytes 99991
+image_records 0
+image_bytes 0
+used_ratio 0.00122
 END
 sed 's/^\([a-z_]*\) .*/# TYPE issuer_device_\1 gauge\nissuer_device_&/' "$room/stats" >"$room/metrics"
 told 'the first example' "$room/lines" "$device"
 told 'its room' "$room/stats" "$device" --stats
 told 'its room for Prometheus' "$room/metrics" "$device" --stats prometheus
-altered 133 '\07\0\0\0\01x'
+altered 138 '\07\0\0\0\01x'
 told 'a torn end' "$room/lines" "$room/altered"
+
+# One of version 1 has its first gate right after its header, and no halves.
+{ printf '\01ISS1\01\0\0\0\0\0\0\0\0\0\0' && head -c 100005 "$device" | tail -c +22; } >"$room/one_journal"
+cat >"$room/one_stats" <<'END'
+records 4
+size_bytes 100000
+free_bytes 99866
+used_ratio 0.00134
+END
+told 'a device of version 1' "$room/lines" "$room/one_journal"
+told 'the room of one of version 1' "$room/one_stats" "$room/one_journal" --stats
+
+# A user of 36 letters who is suspended and made active in turns: a device of 707 bytes turns before the seventh record and the eighth.
+user=$(printf 'w%.0s' {1..36})
+move() { printf '{"type":"move","at":0,"token":"t%s","user":"%s","to":"%s"}\n' "$1" "$user" "$2"; }
+{
+    printf '{"type":"user","token":"t1","user":"%s"}\n' "$user"
+    for n in 2 4 6; do
+        move "$n" SUSPENDED
+        move $((n + 1)) ACTIVE
+    done
+    move 8 SUSPENDED
+} >"$room/in"
+issue format "$room/turned" 707 0
+ended 'a device that turns, formatted' 0 ''
+issue replay "$room/turned" <"$room/in" >"$room/out"
+ended 'a device that turns' 0 ''
+[ "$(grep -c '"reply":"done"' "$room/out")" = 8 ] || fail "a device that turns: it wrote '$(cat "$room/out")'"
+status=0
+python3 "$reader" "$room/turned" >"$room/out" 2>"$room/said" || status=$?
+[ "$status" = 2 ] || fail "a device that has turned: status $status, not 2"
+grep -qF 'its first 7 records are in its image alone' "$room/said" || fail "a device that has turned: it said '$(cat "$room/said")'"
+move 8 SUSPENDED >"$room/last"
+wrote 'a device that has turned' "$room/last"
+python3 "$reader" "$room/turned" --stats | head -n 1 >"$room/out"
+wrote 'how many records a device that has turned has' - <<<'records 8'
 
 refused "$room/none" 'No such file'
 : >"$room/empty"
@@ -117,28 +156,30 @@ refused "$room/empty" 'empty'
 refused "$device" 'usage' --stat
 head -c 100 /dev/zero >"$room/zeros"
 refused "$room/zeros" "it isn't formatted" --stats
-altered 5 '\02'
+altered 5 '\03'
 refused "$room/altered" "it isn't formatted"
-altered 17 '\0\0\0\0'
-refused "$room/altered" 'at place 16 is a record of 0 bytes'
-altered 17 '\0\0\040\01'
-refused "$room/altered" 'at place 16 is a record of 8193 bytes'
-altered 99 '\0\0\040\0'
-head -c 200 "$room/altered" >"$room/short"
-refused "$room/short" 'at place 98 is a record of 8192 bytes'
-altered 20 '\016'
+altered 17 '\0\01\0206\0223'
+refused "$room/altered" 'at place 17 is an image of 99987 bytes'
+altered 22 '\0\0\0\0'
+refused "$room/altered" 'at place 21 is a record of 0 bytes'
+altered 22 '\0\0\040\01'
+refused "$room/altered" 'at place 21 is a record of 8193 bytes'
+altered 104 '\0\0\040\0'
+head -c 400 "$room/altered" >"$room/short"
+refused "$room/short" 'at place 103 is a record of 8192 bytes'
+altered 25 '\016'
 refused "$room/altered" 'a body ends within a field'
-altered 21 '\021'
+altered 26 '\021'
 refused "$room/altered" 'a body has bytes after its last field'
-altered 21 '\025'
+altered 26 '\025'
 refused "$room/altered" 'the number 21 stands for nothing'
-altered 30 '\05'
+altered 35 '\05'
 refused "$room/altered" 'is no token'
-altered 67 '\02'
+altered 72 '\02'
 refused "$room/altered" 'the number 2 stands for nothing'
-altered 88 '\0\01'
+altered 93 '\0\01'
 refused "$room/altered" 'the number 1 stands for nothing'
-altered 128 '\047\020'
+altered 133 '\047\020'
 refused "$room/altered" "'10000' is no mcc"
 
 # A device that a program has open: its room can be looked at, and its lines can't be had.

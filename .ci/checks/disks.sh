@@ -19,9 +19,9 @@ purchases "$count" >"$room/lines"
 issue dry <"$room/lines" >"$room/all"
 ended 'all lines' 0 ''
 
-# formatted NAME: the device of this name, of 16000 bytes.
+# formatted NAME: the device of this name, of 33000 bytes. Each of its halves has room for all records.
 formatted() {
-    issue format "$1" 16000 0
+    issue format "$1" 33000 0
     ended "formatting $1" 0 ''
 }
 
@@ -85,7 +85,7 @@ on_small_disks() {
 
     # A file that has all its bytes before it is formatted needs no room.
     small_disk 40k
-    head -c 16000 /dev/zero >"$device"
+    head -c 33000 /dev/zero >"$device"
     formatted "$device"
     cat /dev/zero >"$room/disk/rest" 2>/dev/null || true
     issue replay "$device" <"$room/lines" >"$room/out"

@@ -7,7 +7,8 @@
 
 kills=200
 count=141
-size=20000
+# Each half has room for all records, so the device never turns.
+size=40000
 device=$room/device
 
 mkdir "$room/texts" "$room/waiting" "$room/devices"

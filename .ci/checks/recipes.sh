@@ -41,16 +41,25 @@ record,type,event,txn,amount,reply,reason
 {"event":"live-9","reply":"done"}
 records 10
 size_bytes 1048576
-free_bytes 1048254
-used_ratio 0.000307
+free_bytes 523969
+half_bytes 524279
+image_records 0
+image_bytes 0
+used_ratio 0.000591
 # TYPE issuer_device_records gauge
 issuer_device_records 10
 # TYPE issuer_device_size_bytes gauge
 issuer_device_size_bytes 1048576
 # TYPE issuer_device_free_bytes gauge
-issuer_device_free_bytes 1048254
+issuer_device_free_bytes 523969
+# TYPE issuer_device_half_bytes gauge
+issuer_device_half_bytes 524279
+# TYPE issuer_device_image_records gauge
+issuer_device_image_records 0
+# TYPE issuer_device_image_bytes gauge
+issuer_device_image_bytes 0
 # TYPE issuer_device_used_ratio gauge
-issuer_device_used_ratio 0.000307
+issuer_device_used_ratio 0.000591
 END
 wrote 'docs/RECIPES.md' "$room/told"
 
@@ -114,7 +123,7 @@ used() {
     ended 'a new device' 0 ''
     issue replay "$room/device" <"$1" >"$room/out"
     ended 'a purchase' 0 ''
-    python3 "$reader" "$room/device" --stats | awk '/^size/ { size = $2 } /^free/ { print size - $2 - 17 }'
+    python3 "$reader" "$room/device" --stats | awk '/^free/ { free = $2 } /^half/ { print $2 - free - 5 }'
 }
 
 # purchase LENGTH: the lines of a purchase that a gateway funds and that is then cleared, all of whose names have this length.
@@ -133,9 +142,9 @@ purchase() {
 END
 }
 
-# millions BYTES: how many million times BYTES a GiB has, cut after the first decimal.
+# millions BYTES: how many million times BYTES a half of a device of a GiB has, cut after the first decimal.
 millions() {
-    awk -v bytes="$1" 'BEGIN { printf "%.1f", int(2 ^ 30 / bytes / 100000) / 10 }'
+    awk -v bytes="$1" 'BEGIN { printf "%.1f", int(2 ^ 29 / bytes / 100000) / 10 }'
 }
 
 for length in 8 36; do
@@ -155,4 +164,4 @@ done
 issue format "$room/bytes" 1000 7
 issue replay "$room/bytes" <"$first_in" >"$room/out"
 hex=$(sed -n '/^```$/,/^```$/p' examples/tools/README.md | tr -dc '0-9a-f')
-[ "$hex" = "$(od -An -v -tx1 -j 16 -N "$((${#hex} / 2))" "$room/bytes" | tr -d ' \n')" ] || fail 'examples/tools/README.md has other bytes'
+[ "$hex" = "$(od -An -v -tx1 -j 21 -N "$((${#hex} / 2))" "$room/bytes" | tr -d ' \n')" ] || fail 'examples/tools/README.md has other bytes'

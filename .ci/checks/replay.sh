@@ -52,8 +52,8 @@ grep -q '"method":"pgfs.authorization"' "$room/request" || fail 'a purchase: no 
 replayed 'a request that waits' "$room/request" </dev/null
 replayed 'a request that still waits' "$room/request" </dev/null
 
-# A device that is full says so, and takes what fits.
-formatted 75
+# A device that is full says so, and takes what fits: each half has room for 58 bytes of records, and no image is shorter.
+formatted 143
 cat >"$room/users" <<'END'
 {"type":"user","token":"t1","user":"u1"}
 {"type":"user","token":"t2","user":"u2"}

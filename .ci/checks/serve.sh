@@ -288,7 +288,7 @@ few_handles() {
 
 # ends: how a run ends, and what doesn't begin.
 ends() {
-    formatted 75
+    formatted 143
     serve
     listening "$port" 'what serves'
     told '{"type":"user","token":"t1","user":"u1"}' "$(done_reply t1)"

@@ -1,4 +1,5 @@
 pub mod Devices
+mod Seats
 pub mod Moments
 pub mod Firmly
 pub mod Refusals

@@ -1,6 +1,6 @@
 -- What a stop leaves at each moment, within the opening and after it, and where a run ends.
-use Rattle.std.proofs.Common.{◌≡◌, ℕ, inl, inr, Bool, true, false, not, ◌&&◌, List, [], ◌∷◌, ◌++◌, length, take, refl, sym, ap, subst, ◌∙◌, append-nil, append_assoc, arith}
-use Rattle.std.proofs.lemmas.List.{append_cancel_left, take_all, length-map}
+use Rattle.std.proofs.Common.{◌≡◌, ℕ, ◌-◌, inl, inr, Bool, true, false, not, ◌&&◌, List, [], ◌∷◌, ◌++◌, length, take, drop, refl, sym, ap, subst, ◌∙◌, append-nil, append_assoc, arith}
+use Rattle.std.proofs.lemmas.List.{append_cancel_left}
 use Rattle.iss_edge.specs.declared.outside.Action.{Action}
 use Rattle.iss_edge.specs.declared.outside.Action.TheVariants.{Write, Sync, Emit, Dial, Close}
 use Rattle.iss_edge.specs.World.{World}
@@ -8,25 +8,35 @@ use Rattle.iss_edge.specs.Puts.{syncs_after}
 use Rattle.iss_edge.specs.Disk.{Disk, after_action, after_actions, IsAtRest, IsImage}
 use Rattle.iss_edge.specs.Stretches.{Step, actions_of, SentUpTo, ShowsUpTo, IsGood, GoesOn, with_levels}
 use Rattle.iss_edge.proofs.StretchLemmas.{EndsInSecond, front_of_two, actions_of-append, actions_of-leveled, after_actions-append, after_both, sent_append, sent_weaker, sent_leveled}
-use Rattle.iss_journal.specs.Region.{Region, ShowsClosed, ShowsFirmly}
-use Rattle.iss_journal.specs.Opening.{OpensFirst, OpenedOrOneMore}
+use Rattle.iss_journal.specs.Region.{ShowsFirmly, RestsFirst}
+use Rattle.iss_halves.specs.Forms.{Form, Seat}
+use Rattle.iss_halves.specs.Standing.{JournalHolds}
 use Rattle.iss_model.specs.declared.input.Record.{Record}
-use Rattle.iss_model.specs.texts.Spelling.{spelling}
-use Rattle.iss_store.specs.Values.{StoreNow}
-use Rattle.iss_store.specs.Standing.{region_of, region_under, bodies_of, DeviceStandsFor, RestsIn, StandsIn}
-use Rattle.iss_store.specs.Goings.{AreFirstOf, StepsGo, StepsGoPart}
-use Rattle.iss_store.specs.Opening.{AreOnDevice, SyncsFirst, OpensGood, OpenedAs}
-use Rattle.iss_store.proofs.NextRecords.{first_self, first_bodies}
-use Rattle.iss_store.proofs.Goings.{goes_rests}
+use Rattle.iss_standing.specs.Standing.{bodies_of, image_after, DeviceStandsFor, RestsAt, StandsAt, OpensAt, OpenedAt}
+use Rattle.iss_standing.specs.Goings.{AreFirstOf, StepsGo, StepsGoPart}
+use Rattle.iss_standing.proofs.Bodies.{first_self, first_image, first_between}
+use Rattle.iss_standing.proofs.Holds.{holds_map}
+use Rattle.iss_standing.proofs.Goings.{goes_rests}
+use Rattle.iss_opening.specs.Values.{StoreNow, form_under, seat_under}
+use Rattle.iss_opening.specs.Opening.{AreOnDevice, SyncsFirst, OpensGood, OpenedAs}
 use Rattle.iss_device.specs.Moments.{BeginsAtRest, EachMoment, AsBefore, EachMomentUnsynced, EndsAtRest}
-use Rattle.iss_device.proofs.Devices.{stands_opened, region_opened}
+use Rattle.iss_device.proofs.Devices.{stands_opened}
 
 -- what an opening starts with may be said of more records
-starts_first : (region : Region) (rs all : List Record) (start image : List ℕ) → AreFirstOf rs all → OpensFirst region (bodies_of rs) start image (length rs) → OpensFirst region (bodies_of all) start image (length rs)
-starts_first region rs all start image first starts =
+starts_first : (form : Form) (rs all : List Record) (start device : List ℕ) → AreFirstOf rs all → OpensAt form rs start device (length rs) → OpensAt form all start device (length rs)
+starts_first form rs all start device first starts =
+    let p = starts.seat.point in
     record {
       same = starts.same;
-      firm = subst (λ (l : List (List ℕ)). ShowsFirmly region l image) (first_bodies rs all first) starts.firm;
+      seat = starts.seat;
+      low = starts.low;
+      holds =
+          holds_map form starts.seat (image_after (take p all))
+          (λ region. ShowsFirmly region (take (length rs - p) (drop p (bodies_of rs))) device)
+          (λ region. ShowsFirmly region (take (length rs - p) (drop p (bodies_of all))) device)
+          (λ region firm. subst (λ (l : List (List ℕ)). ShowsFirmly region l device) (sym (first_between p (length rs) rs all first starts.low (omega arith))) firm)
+          (subst (λ (image : List ℕ). JournalHolds form starts.seat image (λ region. ShowsFirmly region (take (length rs - p) (drop p (bodies_of rs))) device))
+          (sym (first_image p rs all first starts.low)) starts.holds);
     }
 
 -- ---- a device with unsynced writes, which the first sync settles
@@ -35,8 +45,8 @@ syncs_to_rest : (d : Disk) → ((place : ℕ) → d.failed place ≡ false) → 
 syncs_to_rest d none = record { settled = λ place. ap (λ (b : Bool). not (not true && d.touched place) && not b) (none place) }
 
 -- a run whose first step is a sync that succeeds
-module _ (instance : ℕ) (rs all : List Record) (device : List ℕ) (first : Step) (more later : List Step) (syncs : first.action ≡ Sync true) (each : EachMoment instance rs all (first ∷ more) later device) where
-  pub synced_moments : EachMomentUnsynced instance rs all (first ∷ more) later device
+module _ (form : Form) (rs all : List Record) (device : List ℕ) (first : Step) (more later : List Step) (syncs : first.action ≡ Sync true) (each : EachMoment form rs all (first ∷ more) later device) where
+  pub synced_moments : EachMomentUnsynced form rs all (first ∷ more) later device
   synced_moments d begins [] rest cut image is = inl (record { within = (first ∷ more, refl); unsynced = refl; is_image = is })
   synced_moments d begins (step ∷ before) rest cut image is =
       let head : step ≡ first = cc in
@@ -76,11 +86,11 @@ none_before d image [] rest cut is = record { within = ([], refl); unsynced = re
 none_before d image (step ∷ before) rest cut is = absurd cc
 
 -- a run that ended with its opening
-module _ (instance : ℕ) (rs all : List Record) (device : List ℕ) where
-  unopened_unsynced : (added : List Action) → SyncsFirst added → EachMoment instance rs all (with_levels 0 added) [] device → EachMomentUnsynced instance rs all (with_levels 0 added) [] device
+module _ (form : Form) (rs all : List Record) (device : List ℕ) where
+  unopened_unsynced : (added : List Action) → SyncsFirst added → EachMoment form rs all (with_levels 0 added) [] device → EachMomentUnsynced form rs all (with_levels 0 added) [] device
   unopened_unsynced [] syncs each = λ d begins before rest cut image is. inl (none_before d image before rest cut is)
   unopened_unsynced (Sync true ∷ added) syncs each =
-      synced_moments instance rs all device (record { action = Sync true; level = 0 }) (with_levels 0 added) [] refl each
+      synced_moments form rs all device (record { action = Sync true; level = 0 }) (with_levels 0 added) [] refl each
   unopened_unsynced (Sync false ∷ added) syncs each =
       λ d begins before rest cut image is. inl (unsynced_moment (with_levels 0 (Sync false ∷ added)) added d image before rest refl syncs cut is)
   unopened_unsynced (Write at bytes ok ∷ added) syncs each = absurd syncs
@@ -98,28 +108,25 @@ pub trace_opened : (a b : World) (good : OpensGood a b) → b.trace ≡ a.trace 
 trace_opened a b good =
     good.grew ∙ ap (λ (l : List Action). a.trace ++ l) (sym (ap actions_of (append-nil (with_levels 0 good.added)) ∙ actions_of-leveled 0 good.added))
 
-pub not_opened_moments : (instance : ℕ) (rs : List Record) (a b : World) (good : OpensGood a b) → DeviceStandsFor instance rs a.device → EachMoment instance rs rs (with_levels 0 good.added) [] a.device
-not_opened_moments instance rs a b good stands =
+pub not_opened_moments : (form : Form) (seat : Seat) (rs : List Record) (a b : World) (good : OpensGood a b) → DeviceStandsFor form seat rs a.device → EachMoment form rs rs (with_levels 0 good.added) [] a.device
+not_opened_moments form seat rs a b good stands =
     let opening = with_levels 0 good.added in
     λ d begins before after cut image is.
     let ends : opening ≡ before ++ after = sym (append-nil opening) ∙ cut in
     inr (
       (after, ends),
-      (good.good instance rs (length rs) opening stands.header (actions_of-leveled 0 good.added)).each d begins.rest begins.starts before after ends image is,
+      (good.good form seat rs rs opening stands (first_self rs) (actions_of-leveled 0 good.added)).each d begins.rest begins.starts before after ends image is,
     )
 
-pub not_opened_unsynced : (instance : ℕ) (rs : List Record) (a b : World) (good : OpensGood a b) → DeviceStandsFor instance rs a.device → EachMomentUnsynced instance rs rs (with_levels 0 good.added) [] a.device
-not_opened_unsynced instance rs a b good stands =
-    unopened_unsynced instance rs rs a.device good.added good.syncs (not_opened_moments instance rs a b good stands)
+pub not_opened_unsynced : (form : Form) (seat : Seat) (rs : List Record) (a b : World) (good : OpensGood a b) → DeviceStandsFor form seat rs a.device → EachMomentUnsynced form rs rs (with_levels 0 good.added) [] a.device
+not_opened_unsynced form seat rs a b good stands =
+    unopened_unsynced form rs rs a.device good.added good.syncs (not_opened_moments form seat rs a b good stands)
 
 -- ---- a run on the store that was opened
 
-module _ (instance : ℕ) (rs : List Record) (s : StoreNow) (a b : World) (opening : OpenedAs s a b) (stands : DeviceStandsFor instance rs a.device) where
-  abbrev region : Region
-  region = region_of instance (length a.device)
-
-  region_is : region_under s ≡ region_of instance (length a.device)
-  region_is = region_opened instance (length a.device) rs s (stands_opened instance rs s a b opening stands)
+module _ (form : Form) (seat : Seat) (rs : List Record) (s : StoreNow) (a b : World) (opening : OpenedAs s a b) (stands : DeviceStandsFor form seat rs a.device) where
+  form_is : form_under s ≡ form
+  form_is = (stands_opened form seat rs s a b opening stands).form_is
 
   abbrev opening_steps : List Step
   opening_steps = with_levels 0 opening.good.added
@@ -135,25 +142,25 @@ module _ (instance : ℕ) (rs : List Record) (s : StoreNow) (a b : World) (openi
       ∙ ap (λ (l : List Action). a.trace ++ l)
       (sym (actions_of-append opening_steps steps ∙ ap (λ (l : List Action). l ++ actions_of steps) (actions_of-leveled 0 opening.good.added)))
 
-  opening_goes_on : (all : List Record) → GoesOn (OpensFirst region (bodies_of all) a.device) (OpenedOrOneMore region (bodies_of all) a.device) (RestsIn region all) (length rs) (length rs) opening_steps
-  opening_goes_on all =
-      opening.going.goes_on instance all (length rs) opening_steps stands.header (actions_of-leveled 0 opening.good.added ∙ same_opening)
+  opening_goes_on : (all : List Record) → AreFirstOf rs all → GoesOn (OpensAt form all a.device) (OpenedAt form all a.device) (RestsAt form (seat_under s) all) (length rs) (length rs) opening_steps
+  opening_goes_on all first =
+      opening.going.goes_on form seat rs all opening_steps stands first (actions_of-leveled 0 opening.good.added ∙ same_opening)
 
-  module _ (now : List Record) (said : List Step) (d : World) (part : StepsGoPart (region_under s) rs now said b d) where
-    later_good : IsGood (RestsIn region now) (StandsIn region now) (length rs) (length now) part.steps
+  module _ (now : List Record) (said : List Step) (d : World) (part : StepsGoPart (form_under s) (seat_under s) rs now said b d) where
+    later_good : IsGood (RestsAt form (seat_under s) now) (StandsAt form now) (length rs) (length now) part.steps
     later_good =
-        subst (λ (r : Region). IsGood (RestsIn r now) (StandsIn r now) (length rs) (length now) part.steps) region_is (part.good now (first_self now))
+        subst (λ (f : Form). IsGood (RestsAt f (seat_under s) now) (StandsAt f now) (length rs) (length now) part.steps) form_is (part.good now (first_self now))
 
     -- a moment after the opening
-    moment_later : (disk : Disk) → IsAtRest disk → OpensFirst region (bodies_of now) a.device disk.bytes (length rs) → (before rest : List Step) (image : List ℕ)
+    moment_later : (disk : Disk) → IsAtRest disk → OpensAt form now a.device disk.bytes (length rs) → (before rest : List Step) (image : List ℕ)
         → IsImage (after_actions disk (actions_of before)) image → EndsInSecond opening_steps part.steps before rest
-        → ShowsUpTo (StandsIn region now) (length rs) (length now) before image
+        → ShowsUpTo (StandsAt form now) (length rs) (length now) before image
     moment_later disk calm starts before rest image is ends =
         let mid = after_actions disk (actions_of opening_steps) in
         let there : after_actions disk (actions_of before) ≡ after_actions mid (actions_of ends.prefix) =
         ap (λ (l : List Step). after_actions disk (actions_of l)) ends.is ∙ after_both disk opening_steps ends.prefix in
-        let opened = opening_goes_on now in
-        let shows : ShowsUpTo (StandsIn region now) (length rs) (length now) ends.prefix image =
+        let opened = opening_goes_on now part.more in
+        let shows : ShowsUpTo (StandsAt form now) (length rs) (length now) ends.prefix image =
         later_good.each mid (opened.at_rest disk calm starts) (opened.rest disk calm starts) ends.prefix rest ends.cut image
         (subst (λ (x : Disk). IsImage x image) there is) in
         let opened_told : SentUpTo shows.i opening_steps = sent_weaker 0 shows.i opening_steps (omega arith) (sent_leveled 0 opening.good.added) in
@@ -165,37 +172,30 @@ module _ (instance : ℕ) (rs : List Record) (s : StoreNow) (a b : World) (openi
           told = subst (λ (l : List Step). SentUpTo shows.i l) (sym ends.is) (sent_append shows.i opening_steps ends.prefix opened_told shows.told);
         }
 
-    pub opened_moments : EachMoment instance rs now opening_steps part.steps a.device
+    pub opened_moments : EachMoment form rs now opening_steps part.steps a.device
     opened_moments disk begins before rest cut image is =
-        let starts : OpensFirst region (bodies_of now) a.device disk.bytes (length rs) =
-        starts_first region rs now a.device disk.bytes part.more begins.starts in
+        let starts : OpensAt form now a.device disk.bytes (length rs) =
+        starts_first form rs now a.device disk.bytes part.more begins.starts in
         elim (front_of_two opening_steps part.steps before rest cut) [
-          | inl h ↦ inr ((h.rest, h.is), (opening_goes_on now).good.each disk begins.rest starts before h.rest h.is image is)
+          | inl h ↦ inr ((h.rest, h.is), (opening_goes_on now part.more).good.each disk begins.rest starts before h.rest h.is image is)
           | inr h ↦ inl (moment_later disk begins.rest starts before rest image is h)
         ]
 
-    pub opened_unsynced : EachMomentUnsynced instance rs now opening_steps part.steps a.device
+    pub opened_unsynced : EachMomentUnsynced form rs now opening_steps part.steps a.device
     opened_unsynced =
         let syncs : opening.good.added ≡ Sync true ∷ opening.going.behind = same_opening ∙ opening.going.synced in
-        subst (λ (l : List Action). EachMomentUnsynced instance rs now (with_levels 0 l) part.steps a.device) (sym syncs)
-        (synced_moments instance rs now a.device (record { action = Sync true; level = 0 }) (with_levels 0 opening.going.behind) part.steps refl
-        (subst (λ (l : List Action). EachMoment instance rs now (with_levels 0 l) part.steps a.device) syncs opened_moments))
+        subst (λ (l : List Action). EachMomentUnsynced form rs now (with_levels 0 l) part.steps a.device) (sym syncs)
+        (synced_moments form rs now a.device (record { action = Sync true; level = 0 }) (with_levels 0 opening.going.behind) part.steps refl
+        (subst (λ (l : List Action). EachMoment form rs now (with_levels 0 l) part.steps a.device) syncs opened_moments))
 
   -- ---- where it ends
 
-  module _ (now : List Record) (said : List Step) (d : World) (goes : StepsGo (region_under s) rs now said b d) where
-    pub rests_now : RestsIn region now d.device (length now)
+  module _ (to : Seat) (now : List Record) (said : List Step) (d : World) (goes : StepsGo (form_under s) (seat_under s) to rs now said b d) where
+    pub rests_now : RestsAt form to now d.device (length now)
     rests_now =
-        let begins : RestsIn (region_under s) rs b.device (length rs) =
-        subst (λ (r : Region). RestsIn r rs b.device (length rs)) (sym region_is) (opening.going.rests rs instance stands) in
-        subst (λ (r : Region). RestsIn r now d.device (length now)) region_is (goes_rests (region_under s) rs now said b d goes begins)
-
-    pub closed_now : ShowsClosed region (bodies_of now) d.device
-    closed_now =
-        subst (λ (l : List (List ℕ)). ShowsClosed region l d.device) (take_all (length now) (bodies_of now) (omega (arith, length-map now spelling))) rests_now
-
-    size_now : length d.device ≡ length a.device
-    size_now = closed_now.ends.whole
+        let begins : RestsAt (form_under s) (seat_under s) rs b.device (length rs) =
+        subst (λ (f : Form). RestsAt f (seat_under s) rs b.device (length rs)) (sym form_is) (opening.going.rests form seat rs stands) in
+        subst (λ (f : Form). RestsAt f to now d.device (length now)) form_is (goes_rests (form_under s) (seat_under s) to rs now said b d goes begins)
 
     -- as it reads, the device is what was left of it
     left_now : (disk : Disk) → disk.bytes ≡ a.device → (after_actions disk (opening.good.added ++ actions_of goes.steps)).bytes ≡ d.device
@@ -204,26 +204,24 @@ module _ (instance : ℕ) (rs : List Record) (s : StoreNow) (a b : World) (openi
         ∙ goes.leaves.leaves (after_actions disk opening.good.added)
         (ap (λ (l : List Action). (after_actions disk l).bytes) same_opening ∙ opening.going.leaves disk is)
 
-    calm_now : (disk : Disk) → BeginsAtRest instance rs a.device disk → IsAtRest (after_actions disk (opening.good.added ++ actions_of goes.steps))
+    calm_now : (disk : Disk) → BeginsAtRest form rs a.device disk → IsAtRest (after_actions disk (opening.good.added ++ actions_of goes.steps))
     calm_now disk begins =
-        let starts : OpensFirst region (bodies_of now) a.device disk.bytes (length rs) =
-        starts_first region rs now a.device disk.bytes goes.more begins.starts in
-        let opened = opening_goes_on now in
+        let starts : OpensAt form now a.device disk.bytes (length rs) =
+        starts_first form rs now a.device disk.bytes goes.more begins.starts in
+        let opened = opening_goes_on now goes.more in
         let mid = after_actions disk (actions_of opening_steps) in
-        let going : GoesOn (RestsIn region now) (StandsIn region now) (RestsIn region now) (length rs) (length now) goes.steps =
-        subst (λ (r : Region). GoesOn (RestsIn r now) (StandsIn r now) (RestsIn r now) (length rs) (length now) goes.steps) region_is (goes.goes_on now (first_self now)) in
+        let going : GoesOn (RestsAt form (seat_under s) now) (StandsAt form now) (RestsAt form to now) (length rs) (length now) goes.steps =
+        subst (λ (f : Form). GoesOn (RestsAt f (seat_under s) now) (StandsAt f now) (RestsAt f to now) (length rs) (length now) goes.steps) form_is (goes.goes_on now (first_self now)) in
         let whole : after_actions mid (actions_of goes.steps) ≡ after_actions disk (opening.good.added ++ actions_of goes.steps) =
         ap (λ (l : List Action). after_actions (after_actions disk l) (actions_of goes.steps)) (actions_of-leveled 0 opening.good.added)
         ∙ sym (after_actions-append disk opening.good.added (actions_of goes.steps)) in
         subst IsAtRest whole (going.at_rest mid (opened.at_rest disk begins.rest starts) (opened.rest disk begins.rest starts))
 
-    pub ends_at_rest : EndsAtRest instance rs now (opening.good.added ++ actions_of goes.steps) a d
+    pub ends_at_rest : EndsAtRest form rs now (opening.good.added ++ actions_of goes.steps) a d
     ends_at_rest =
-        let closed : ShowsClosed (region_of instance (length d.device)) (bodies_of now) d.device =
-        subst (λ (n : ℕ). ShowsClosed (region_of instance n) (bodies_of now) d.device) (sym size_now) closed_now in
-        let all : bodies_of now ≡ take (length now) (bodies_of now) = sym (take_all (length now) (bodies_of now) (omega (arith, length-map now spelling))) in
         record {
-          closed = closed;
+          seat = to;
+          closed = rests_now;
           begins = λ disk begins.
               let left : (after_actions disk (opening.good.added ++ actions_of goes.steps)).bytes ≡ d.device = left_now disk begins.starts.same in
               record {
@@ -231,9 +229,14 @@ module _ (instance : ℕ) (rs : List Record) (s : StoreNow) (a b : World) (openi
                 starts =
                     record {
                       same = left;
-                      firm =
-                          subst (λ (l : List ℕ). ShowsFirmly (region_of instance (length d.device)) (take (length now) (bodies_of now)) l) (sym left)
-                          (inl (subst (λ (l : List (List ℕ)). ShowsClosed (region_of instance (length d.device)) l d.device) all closed));
+                      seat = to;
+                      low = rests_now.low;
+                      holds =
+                          holds_map form to (image_after (take to.point now))
+                          (λ region. RestsFirst region (drop to.point (bodies_of now)) d.device (length now - to.point))
+                          (λ region. ShowsFirmly region (take (length now - to.point) (drop to.point (bodies_of now))) (after_actions disk (opening.good.added ++ actions_of goes.steps)).bytes)
+                          (λ region closed. subst (λ (l : List ℕ). ShowsFirmly region (take (length now - to.point) (drop to.point (bodies_of now))) l) (sym left) (inl closed))
+                          rests_now.holds;
                     };
               };
         }

@@ -1,13 +1,13 @@
--- A device that stands for no records is refused, and no other is.
+-- A device on which no store can be opened is refused, and no other is.
 use Rattle.std.proofs.Common.{◌≡◌, ℕ, inl, inr, Option, Err, refl}
 use Rattle.iss_edge.specs.World.{World, Told}
 use Rattle.iss_edge.proofs.Tolds.{told_map}
-use Rattle.iss_store.specs.declared.fault.OpenFault.{OpenFault}
-use Rattle.iss_store.specs.declared.fault.OpenFault.TheVariants.{Disk, NotFormatted, BadRecord, BadSpelling, BadHistory, OutOfMemory}
-use Rattle.iss_store.specs.Values.{StoreNow}
-use Rattle.iss_store.specs.Opening.{Opens, OpensStore, OpensGood, ReadsAlone, OnRefused}
-use Rattle.iss_store.proofs.GoodDevices.{good_device}
-use Rattle.iss_store.proofs.ToldReadings.{told_both}
+use Rattle.iss_opening.specs.declared.fault.OpenFault.{OpenFault}
+use Rattle.iss_opening.specs.declared.fault.OpenFault.TheVariants.{Disk, NotFormatted, BadImage, BadRecord, BadSpelling, BadHistory, OutOfMemory}
+use Rattle.iss_opening.specs.Values.{StoreNow}
+use Rattle.iss_opening.specs.Opening.{Opens, OpensStore, OpensGood, ReadsAlone, OnRefused}
+use Rattle.iss_opening.proofs.GoodDevices.{opened_device}
+use Rattle.iss_opening.proofs.Telling.{told_both}
 use Rattle.iss_device.specs.Refusals.{IsNoStore, OnDeviceAlone, RefusesExactly, opening_status}
 
 alone : (a b : World) → OpensGood a b → OnDeviceAlone a b
@@ -44,7 +44,7 @@ memory_refuses a b good reads =
       others = λ four six seven. absurd (seven refl);
     }
 
--- a fault that says that the device stands for no records
+-- a fault that says that no store can be opened on the device
 told_none : (fault : OpenFault) (x y : Option World) → ((a : World) → Opens (Err fault) a a → IsNoStore a.device) → ((a b : World) → Opens (Err fault) a b → Opens (Err fault) a a) → Told (Opens (Err fault)) x y → Told OpensGood x y → Told ReadsAlone x y
     → Told (RefusesExactly 4) x y
 told_none fault x y none same opens good reads =
@@ -57,21 +57,28 @@ told_refuses Disk x y opens good reads = told_map OpensGood (RefusesExactly 6) x
 told_refuses OutOfMemory x y opens good reads =
     told_map (λ a b. OpensGood a b × ReadsAlone a b) (RefusesExactly 7) x y (λ a b p. memory_refuses a b p.0 p.1) (told_both OpensGood ReadsAlone x y good reads)
 told_refuses NotFormatted x y opens good reads = told_none NotFormatted x y (λ a found. inl found) (λ a b found. found) opens good reads
-told_refuses (BadRecord gate) x y opens good reads = told_none (BadRecord gate) x y (λ a found. inr (gate, inl found)) (λ a b found. found) opens good reads
-told_refuses (BadSpelling gate) x y opens good reads = told_none (BadSpelling gate) x y (λ a found. inr (gate, inr (inl found))) (λ a b found. found) opens good reads
-told_refuses (BadHistory gate) x y opens good reads = told_none (BadHistory gate) x y (λ a found. inr (gate, inr (inr found))) (λ a b found. found) opens good reads
+told_refuses (BadImage place) x y opens good reads = told_none (BadImage place) x y (λ a found. inr (place, inl found)) (λ a b found. found) opens good reads
+told_refuses (BadRecord place) x y opens good reads = told_none (BadRecord place) x y (λ a found. inr (place, inr (inl found))) (λ a b found. found) opens good reads
+told_refuses (BadSpelling gate) x y opens good reads = told_none (BadSpelling gate) x y (λ a found. inr (gate, inr (inr (inl found)))) (λ a b found. found) opens good reads
+told_refuses (BadHistory gate) x y opens good reads = told_none (BadHistory gate) x y (λ a found. inr (gate, inr (inr (inr found)))) (λ a b found. found) opens good reads
 
 -- on a device that opens there is no such fault
 not_none : (s : StoreNow) (a b : World) → OpensStore s a.device → IsNoStore a.device → ⊥
 not_none s a b opens none =
-    let stands = opens.device_stands in
-    let good = λ (fault : OpenFault). good_device s.core.instance opens.rs fault a b stands in
     elim none [
-      | inl unformatted ↦ good NotFormatted unformatted
+      | inl unformatted ↦ opened_device s NotFormatted a b opens unformatted
       | inr found ↦
           elim found.1 [
-            | inl record_bad ↦ good (BadRecord found.0) record_bad
-            | inr others ↦ elim others [ inl spelling_bad ↦ good (BadSpelling found.0) spelling_bad | inr history_bad ↦ good (BadHistory found.0) history_bad ]
+            | inl image_bad ↦ opened_device s (BadImage found.0) a b opens image_bad
+            | inr others ↦
+                elim others [
+                  | inl record_bad ↦ opened_device s (BadRecord found.0) a b opens record_bad
+                  | inr more ↦
+                      elim more [
+                        | inl spelling_bad ↦ opened_device s (BadSpelling found.0) a b opens spelling_bad
+                        | inr history_bad ↦ opened_device s (BadHistory found.0) a b opens history_bad
+                      ]
+                ]
           ]
     ]
 
@@ -82,5 +89,5 @@ opened_refuses n s a b not_device opens =
       there = λ found. absurd (not_none s a b opens found);
       untouched = λ found. absurd (not_none s a b opens found);
       as_before = λ found six. absurd (not_none s a b opens found);
-      others = λ four six seven. record { instance = s.core.instance; rs = opens.rs; stands = opens.device_stands };
+      others = λ four six seven. record { store = s; opens = opens };
     }

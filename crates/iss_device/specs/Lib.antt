@@ -1,4 +1,3 @@
 pub mod Runs
-pub mod Opened
 pub mod Refusals
 pub mod Moments

@@ -1,27 +1,29 @@
 -- What a stop leaves at each moment of a run that opens a device, and how such a run ends.
-use Rattle.std.specs.Prelude.{◌≡◌, ◌⊎◌, ℕ, ◌≤◌, false, List, [], ◌∷◌, ◌++◌, length}
+use Rattle.std.specs.Prelude.{◌≡◌, ◌⊎◌, ℕ, ◌≤◌, true, false, List, [], ◌∷◌, ◌++◌, length, take, drop}
 use Rattle.iss_edge.specs.declared.outside.Action.{Action}
 use Rattle.iss_edge.specs.World.{World}
 use Rattle.iss_edge.specs.Puts.{syncs_after}
 use Rattle.iss_edge.specs.Stretches.{Step, actions_of, SentUpTo, ShowsUpTo}
 use Rattle.iss_edge.specs.Disk.{Disk, after_actions, IsAtRest, IsImage}
 use Rattle.iss_journal.specs.Region.{ShowsClosed, LeavesBehind}
-use Rattle.iss_journal.specs.Opening.{OpensFirst, OpenedOrOneMore}
+use Rattle.iss_halves.specs.Forms.{Form, Seat}
+use Rattle.iss_halves.specs.Standing.{JournalHolds}
 use Rattle.iss_model.specs.declared.input.Record.{Record}
 use Rattle.iss_model.specs.texts.Spelling.{spelling}
-use Rattle.iss_store.specs.Standing.{region_of, bodies_of, AreHistory, DeviceStandsFor, StandsIn}
-use Rattle.iss_store.specs.Goings.{AreFirstOf}
+use Rattle.iss_model.specs.declared.limits.TheConstants.{MOST_RECORDS}
+use Rattle.iss_standing.specs.Standing.{bodies_of, image_after, AreHistory, DeviceStandsFor, RestsAt, StandsAt, OpensAt, OpenedAt}
+use Rattle.iss_standing.specs.Goings.{AreFirstOf}
 
 -- where a run begins: the device is at rest, reads so, and stands firmly for these records
-pub record BeginsAtRest (instance : ℕ) (rs : List Record) (device : List ℕ) (d : Disk) : Type 0 where
+pub record BeginsAtRest (form : Form) (rs : List Record) (device : List ℕ) (d : Disk) : Type 0 where
   pub rest : IsAtRest d
-  pub starts : OpensFirst (region_of instance (length device)) (bodies_of rs) device d.bytes (length rs)
+  pub starts : OpensAt form rs device d.bytes (length rs)
 
 -- A run may also begin here: no write failed, but some may be unsynced, as after a kill. The device reads so, and as it reads it stands
 -- firmly for these records.
-pub record BeginsUnsynced (instance : ℕ) (rs : List Record) (device : List ℕ) (d : Disk) : Type 0 where
+pub record BeginsUnsynced (form : Form) (rs : List Record) (device : List ℕ) (d : Disk) : Type 0 where
   pub none_failed : (place : ℕ) → d.failed place ≡ false
-  pub starts : OpensFirst (region_of instance (length device)) (bodies_of rs) device d.bytes (length rs)
+  pub starts : OpensAt form rs device d.bytes (length rs)
 
 -- these steps are a first part of the opening
 abbrev pub IsWithin : List Step → List Step → Type 0
@@ -30,20 +32,19 @@ IsWithin opening before = (later : List Step) × (opening ≡ before ++ later)
 -- What a stop leaves at a moment of a run, once these steps were done: the records that stood and the first of those that it makes,
 -- at least as many as the level of each text of which a byte went out, with nothing or the next of them left behind. Or, as long as
 -- the steps are those of the opening, the records that stood, with what was left behind them at the start, or with that record too.
-abbrev pub MomentStands : ℕ → List Record → List Record → List Step → List Step → List ℕ → List ℕ → Type 0
-MomentStands instance rs all opening before start image =
-    ShowsUpTo (StandsIn (region_of instance (length start)) all) (length rs) (length all) before image
-    ⊎ (IsWithin opening before
-    × ShowsUpTo (OpenedOrOneMore (region_of instance (length start)) (bodies_of all) start) (length rs) (length rs) before image)
+abbrev pub MomentStands : Form → List Record → List Record → List Step → List Step → List ℕ → List ℕ → Type 0
+MomentStands form rs all opening before start image =
+    ShowsUpTo (StandsAt form all) (length rs) (length all) before image
+    ⊎ (IsWithin opening before × ShowsUpTo (OpenedAt form all start) (length rs) (length rs) before image)
 
 -- Each moment of these steps, first those of the opening and then the later ones, on a device at rest that stands firmly for these
 -- records, if all of those may stand in the end.
-abbrev pub EachMoment : ℕ → List Record → List Record → List Step → List Step → List ℕ → Type 0
-EachMoment instance rs all opening later device =
-    (d : Disk) → BeginsAtRest instance rs device d
+abbrev pub EachMoment : Form → List Record → List Record → List Step → List Step → List ℕ → Type 0
+EachMoment form rs all opening later device =
+    (d : Disk) → BeginsAtRest form rs device d
     → (before rest : List Step) → opening ++ later ≡ before ++ rest
     → (image : List ℕ) → IsImage (after_actions d (actions_of before)) image
-    → MomentStands instance rs all opening before device image
+    → MomentStands form rs all opening before device image
 
 -- Within the opening, before a sync of it has succeeded, a stop leaves what it may have left before the run.
 pub record AsBefore (opening before : List Step) (d : Disk) (image : List ℕ) : Type 0 where
@@ -53,38 +54,49 @@ pub record AsBefore (opening before : List Step) (d : Disk) (image : List ℕ) :
 
 -- Each moment of a run that begins on a device with unsynced writes. Until a sync of the opening has succeeded, nothing is worse than before
 -- the run. From then on all is as on a device at rest.
-abbrev pub EachMomentUnsynced : ℕ → List Record → List Record → List Step → List Step → List ℕ → Type 0
-EachMomentUnsynced instance rs all opening later device =
-    (d : Disk) → BeginsUnsynced instance rs device d
+abbrev pub EachMomentUnsynced : Form → List Record → List Record → List Step → List Step → List ℕ → Type 0
+EachMomentUnsynced form rs all opening later device =
+    (d : Disk) → BeginsUnsynced form rs device d
     → (before rest : List Step) → opening ++ later ≡ before ++ rest
     → (image : List ℕ) → IsImage (after_actions d (actions_of before)) image
-    → AsBefore opening before d image ⊎ MomentStands instance rs all opening before device image
+    → AsBefore opening before d image ⊎ MomentStands form rs all opening before device image
 
--- the device stands firmly for these records: its end gate is 0, or a record that follows on them is left behind
-pub record StandsFirmly (instance : ℕ) (rs : List Record) (device : List ℕ) : Type 0 where
-  pub stands : DeviceStandsFor instance rs device
-  pub firm : ShowsClosed (region_of instance (length device)) (bodies_of rs) device
-      ⊎ ((r : Record) × (AreHistory (rs ++ r ∷ []) × LeavesBehind (region_of instance (length device)) (bodies_of rs) (spelling r) device))
+-- one more record may stand on a device of this form after these: with it they are a history, in halves of at most as many as there may be
+pub record MayFollow (form : Form) (rs : List Record) (r : Record) : Type 0 where
+  pub history : AreHistory (rs ++ r ∷ [])
+  pub few : form.halved ≡ true → length (rs ++ r ∷ []) ≤ MOST_RECORDS
+
+-- the device stands firmly for these records at this seat: its end gate is 0, or a record that may follow on them is left behind
+pub record StandsFirmlyAt (form : Form) (seat : Seat) (rs : List Record) (device : List ℕ) : Type 0 where
+  pub stands : DeviceStandsFor form seat rs device
+  pub firm : JournalHolds form seat (image_after (take seat.point rs)) (λ region. ShowsClosed region (bodies_of (drop seat.point rs)) device)
+      ⊎ ((r : Record) × (MayFollow form rs r
+      × JournalHolds form seat (image_after (take seat.point rs)) (λ region. LeavesBehind region (bodies_of (drop seat.point rs)) (spelling r) device)))
+
+-- the device stands firmly for these records at some seat
+abbrev pub StandsFirmly : Form → List Record → List ℕ → Type 0
+StandsFirmly form rs device = (seat : Seat) × StandsFirmlyAt form seat rs device
 
 -- What a stop leaves stands firmly for the first of these records, or for those that stood and any one more. They are at least as many
 -- as those that stood, and as the level of each text of which a byte went out.
-pub record StopStands (instance : ℕ) (rs made : List Record) (before : List Step) (image : List ℕ) : Type 0 where
+pub record StopStands (form : Form) (rs made : List Record) (before : List Step) (image : List ℕ) : Type 0 where
   pub now : List Record
-  pub firm : StandsFirmly instance now image
+  pub firm : StandsFirmly form now image
   pub least : length rs ≤ length now
   pub told : SentUpTo (length now) before
   pub which : AreFirstOf now made ⊎ ((r : Record) × (now ≡ rs ++ r ∷ []))
 
 -- This holds at each moment of these steps, if it held at the start: the next run may begin with whatever a stop leaves.
-abbrev pub EachStopStands : ℕ → List Record → List Record → List Step → List ℕ → Type 0
-EachStopStands instance rs made steps device =
-    (d : Disk) → IsAtRest d → d.bytes ≡ device → StandsFirmly instance rs device
+abbrev pub EachStopStands : Form → List Record → List Record → List Step → List ℕ → Type 0
+EachStopStands form rs made steps device =
+    (d : Disk) → IsAtRest d → d.bytes ≡ device → StandsFirmly form rs device
     → (before rest : List Step) → steps ≡ before ++ rest
     → (image : List ℕ) → IsImage (after_actions d (actions_of before)) image
-    → StopStands instance rs made before image
+    → StopStands form rs made before image
 
 -- A run that did this and began at rest ends where the next one begins. The device is at rest, reads so, and stands for these records
 -- with an end gate of 0.
-pub record EndsAtRest (instance : ℕ) (rs now : List Record) (actions : List Action) (a b : World) : Type 0 where
-  pub closed : ShowsClosed (region_of instance (length b.device)) (bodies_of now) b.device
-  pub begins : (d : Disk) → BeginsAtRest instance rs a.device d → BeginsAtRest instance now b.device (after_actions d actions)
+pub record EndsAtRest (form : Form) (rs now : List Record) (actions : List Action) (a b : World) : Type 0 where
+  pub seat : Seat
+  pub closed : RestsAt form seat now b.device (length now)
+  pub begins : (d : Disk) → BeginsAtRest form rs a.device d → BeginsAtRest form now b.device (after_actions d actions)

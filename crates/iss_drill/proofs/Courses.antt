@@ -8,7 +8,7 @@ use Rattle.iss_model.specs.declared.input.Outcome.{Outcome}
 use Rattle.iss_model.specs.Forms.{is_in_form}
 use Rattle.iss_model.specs.run.Transcripts.{Reading, sound}
 use Rattle.iss_model.specs.run.Runs.{Run, run_after}
-use Rattle.iss_store.specs.Values.{StoreNow}
+use Rattle.iss_opening.specs.Values.{StoreNow}
 use Rattle.iss_drill.specs.declared.tally.Tally.{Tally}
 use Rattle.iss_drill.specs.Generated.{next_state, state_at, drawn}
 use Rattle.iss_drill.specs.Setup.{setup_input}
@@ -26,12 +26,12 @@ next_is n = omega arith
 pub record IsSetUp (number : ℕ) (t0 t : Tally) (s0 s : StoreNow) (size0 size : ℕ) : Type 0 where
   pub lines : t.lines ≡ number
   pub few : IsFew number t
-  pub fits : size ≡ s.place.to
-  pub to : s.place.to ≡ s0.place.to
+  pub fits : size ≡ s.layout.size
+  pub to : s.layout.size ≡ s0.layout.size
   pub kept : size ≡ size0
   pub given : (start : Run) → HasGiven start [] t0 s0 → HasGiven start (setup_lines number) t s
 
-pub setup_begins : (t : Tally) (s : StoreNow) (size : ℕ) → t.lines ≡ 0 → IsFew 0 t → size ≡ s.place.to → IsSetUp 0 t t s s size size
+pub setup_begins : (t : Tally) (s : StoreNow) (size : ℕ) → t.lines ≡ 0 → IsFew 0 t → size ≡ s.layout.size → IsSetUp 0 t t s s size size
 unfolding setup_lines
 setup_begins t s size none few fits = record { lines = none; few = few; fits = fits; to = refl; kept = refl; given = λ start given. given }
 
@@ -41,7 +41,7 @@ setup_more number =
     ap (λ (n : ℕ). setup_lines number ++ sound (setup_input n) None ∷ []) (sym (next_is number)) ∙ ap (λ (n : ℕ). setup_lines n) (next_is number)
 
 pub setup_next : (number : ℕ) (t0 t u : Tally) (s0 s s' : StoreNow) (size0 size size' : ℕ) → IsSetUp number t0 t s0 s size0 size
-    → u.lines ≡ t.lines + 1 → IsFew (t.lines + 1) u → size' ≡ size → s'.place.to ≡ s.place.to
+    → u.lines ≡ t.lines + 1 → IsFew (t.lines + 1) u → size' ≡ size → s'.layout.size ≡ s.layout.size
     → ((start : Run) (lines : List Reading) → HasGiven start lines t s → HasGiven start (lines ++ sound (setup_input (number + 1)) None ∷ []) u s')
     → IsSetUp (number + 1) t0 u s0 s' size0 size'
 setup_next number t0 t u s0 s s' size0 size size' so lines few kept to given =
@@ -97,10 +97,10 @@ pub record IsUnderWay (n k state : ℕ) (last : Input) (t0 t : Tally) (s0 s : St
   pub form : IsTrue (is_in_form last)
   pub lines : t.lines ≤ 23 + 2 * k
   pub few : IsFew t.lines t
-  pub fits : size ≡ s.place.to
+  pub fits : size ≡ s.layout.size
   pub given : HasGiven (drill_run n) (setup_lines 23) t0 s0 → HasGiven (drill_run n) (lines_up_to n k) t s
 
-pub events_begin : (n state : ℕ) (t : Tally) (s : StoreNow) (size : ℕ) → state ≡ 1 → t.lines ≡ 23 → IsFew 23 t → size ≡ s.place.to → IsUnderWay n 0 state input.Time t t s s size
+pub events_begin : (n state : ℕ) (t : Tally) (s : StoreNow) (size : ℕ) → state ≡ 1 → t.lines ≡ 23 → IsFew 23 t → size ≡ s.layout.size → IsUnderWay n 0 state input.Time t t s s size
 unfolding state_at event_input lines_up_to
 events_begin n state t s size one lines few fits =
     record {
@@ -138,7 +138,7 @@ lines_next n k =
 
 pub event_next : (n k state state' y : ℕ) (last next : Input) (t0 t u : Tally) (s0 s s' : StoreNow) (size size' : ℕ) → IsUnderWay n k state last t0 t s0 s size
     → state' ≡ next_state state → y ≡ state' / 65536 → next ≡ cond (nat_eq (y % 8) 7 && nat_lt 1 (k + 1)) last (own_event (k + 1) y) → IsTrue (is_in_form next)
-    → u.lines ≤ t.lines + 2 → IsFew u.lines u → size' ≡ size → s'.place.to ≡ s.place.to
+    → u.lines ≤ t.lines + 2 → IsFew u.lines u → size' ≡ size → s'.layout.size ≡ s.layout.size
     → ((start : Run) (lines : List Reading) → next ≡ event_input (k + 1) → y ≡ drawn (k + 1) → HasGiven start lines t s
     → HasGiven start (lines ++ event_lines (run_after start lines) (k + 1)) u s')
     → IsUnderWay n (k + 1) state' next t0 u s0 s' size'

@@ -1,5 +1,5 @@
 -- A line that is given: its record is kept, its answer told, and what it comes to counted.
-use Rattle.std.proofs.Common.{◌≡◌, ℕ, ◌+◌, ◌*◌, ◌<◌, ◌≤◌, Bool, true, false, List, [], ◌∷◌, ◌++◌, length, refl, sym, ap, subst, ◌∙◌, arith, length-append}
+use Rattle.std.proofs.Common.{◌≡◌, ℕ, ◌+◌, ◌*◌, ◌<◌, ◌≤◌, Bool, true, false, cond, List, [], ◌∷◌, ◌++◌, length, refl, sym, ap, subst, ◌∙◌, arith, length-append}
 use Rattle.std.specs.Prelude.{◌^◌, Option, Some, None, unwrap_or, IfSome, Result, Ok, Err}
 use Rattle.std.specs.List.{list_all}
 use Rattle.std.proofs.lemmas.Bool.{and_parts}
@@ -15,16 +15,18 @@ use Rattle.iss_model.specs.declared.decision.Judged.TheVariants as judged
 use Rattle.iss_model.specs.rules.Stepping.{step}
 use Rattle.iss_model.specs.rules.Judging.{judge}
 use Rattle.iss_model.specs.rules.Histories.{History, nothing_yet, history_keeper, history_of}
-use Rattle.iss_model.specs.run.Rooms.{Room, one_journal, room_left, judgement_within}
+use Rattle.iss_model.specs.run.Rooms.{Room, room_left, judgement_within}
 use Rattle.iss_model.specs.run.Transcripts.{Reading, sound}
 use Rattle.iss_model.specs.run.Runs.{Run, judgement_in, response, response_as, run_after}
 use Rattle.iss_agreement.proofs.Records.{step_records}
+use Rattle.iss_halves.specs.Forms.{Layout}
 use Rattle.iss_store.specs.declared.fault.PlanFault.{PlanFault}
 use Rattle.iss_store.specs.declared.fault.PlanFault.TheVariants as plan_fault
-use Rattle.iss_store.specs.Numbers.{AreNumbered, is_from_one, is_numbered}
-use Rattle.iss_store.specs.Values.{StoreNow, Plan, DurableNow, room_of}
-use Rattle.iss_store.specs.Standing.{StandsFor}
-use Rattle.iss_store.specs.Planning.{Plans}
+use Rattle.iss_opening.specs.Numbers.{AreNumbered, is_from_one, is_numbered}
+use Rattle.iss_opening.specs.Values.{StoreNow, room_of}
+use Rattle.iss_store.specs.Values.{Plan, DurableNow}
+use Rattle.iss_opening.specs.Standing.{StandsFor}
+use Rattle.iss_store.specs.Planning.{Plans, judged_plan, judged_as, turns_for, store_turned}
 use Rattle.iss_store.specs.Committing.{Commits, CommitsOnBook}
 use Rattle.iss_drill.specs.declared.tally.Tally.{Tally}
 use Rattle.iss_drill.specs.Drills.{call_opened, call_opened_in, entries_as, is_repeat, is_told_repeat, tells_repeat, repeats_among, is_approval, is_decline, is_notice_made, rows_with}
@@ -39,11 +41,11 @@ history_with : (rs : List Record) (r : Record) → history_of (rs ++ r ∷ []) �
 history_with rs r = fold_push (λ (h : History) (r : Record). (step history_keeper h r).world) nothing_yet rs r
 
 pub kept : (s s' : StoreNow) (p : Plan) (d : DurableNow) (run : Run) (before after : Tally) (opened : Option CallId)
-    → ((rs : List Record) → StandsFor s rs → CommitsOnBook s' rs p d) → Commits s p s' d → Counts d.entries before after → opened ≡ call_opened d.entries
+    → ((rs : List Record) → StandsFor s rs → CommitsOnBook s s' rs p d) → Counts d.entries before after → opened ≡ call_opened d.entries
     → StandsAtRun s run → Keeps run p.accepted before after s' opened
-kept s s' p d run before after opened on_book commits counts call at =
+kept s s' p d run before after opened on_book counts call at =
     let r : Record = p.accepted in
-    let b : CommitsOnBook s' run.history.records p d = on_book run.history.records at.stands in
+    let b : CommitsOnBook s s' run.history.records p d = on_book run.history.records at.stands in
     let entries : d.entries ≡ (step history_keeper run.history r).entries = b.entries ∙ ap (λ (h : History). (step history_keeper h r).entries) at.history in
     record {
       counts = subst (λ (es : List Entry). Counts es before after) entries counts;
@@ -53,10 +55,18 @@ kept s s' p d run before after opened on_book commits counts call at =
             history =
                 ap (λ (rs : List Record). history_of rs) (step_records run.history r) ∙ history_with run.history.records r
                 ∙ ap (λ (h : History). (step history_keeper h r).world) at.history;
-            room = ap (λ (to : ℕ). Some (one_journal to)) (ap (λ place. place.to) commits.place) ∙ ap (λ (room : Option Room). room_left room run.history.records (Some r)) at.room;
+            room = b.room ∙ ap (λ (room : Option Room). room_left room run.history.records (Some r)) at.room;
           };
       call = call ∙ ap (λ (es : List Entry). call_opened es) entries;
     }
+
+-- a commit leaves the device's size
+pub same_size : (s s' : StoreNow) (p : Plan) (d : DurableNow) → Commits s p s' d → s'.layout.size ≡ s.layout.size
+same_size s s' p d commits = ap (λ (l : Layout). l.size) commits.layout ∙ by (turns_for s p.accepted)
+  where
+    by : (b : Bool) → (cond b (store_turned s) s).layout.size ≡ s.layout.size
+    by true = refl
+    by false = refl
 
 -- the call that entries open is numbered from 1
 pub opened_numbered : (entries : List Entry) (opened : Option CallId) → opened ≡ call_opened entries → AreNumbered entries → IfSome opened IsCallNumbered
@@ -79,13 +89,22 @@ planned_at s run i at result stands on_book =
     (subst (λ (room : Option Room). Plans (judgement_within room run.history.records (judge history_keeper (history_of run.history.records) i at)) result) stands.room
     (on_book run.history.records stands.stands))
 
+-- what a plan that is no clock was judged, and one that is
+new_is : (p : Plan) (j : Judged) → judged_as p ≡ j → p.is_clock ≡ false → judged.New p.accepted ≡ j
+new_is p j is fresh = ap (λ (b : Bool). judged_plan p.accepted b) (sym fresh) ∙ is
+
+clock_is : (p : Plan) (j : Judged) → judged_as p ≡ j → p.is_clock ≡ true → judged.Clock p.accepted ≡ j
+clock_is p j is clock = ap (λ (b : Bool). judged_plan p.accepted b) (sym clock) ∙ is
+
 takes_new_as : (run : Run) (i : Input) (at : ℕ) (j : Judged) (p : Plan) (before after : Tally) (s' : StoreNow) (opened : Option CallId)
     → Plans j (Ok p) → p.is_clock ≡ false → Keeps run p.accepted before after s' opened → Takes run i at j before after s' opened
 takes_new_as run i at (judged.New r) p before after s' opened is fresh keeps =
-    let its : Keeps run r before after s' opened = subst (λ (q : Plan). Keeps run q.accepted before after s' opened) is keeps in
+    let made : judged.New p.accepted ≡ judged.New r = new_is p (judged.New r) is fresh in
+    let same : p.accepted ≡ r = cc in
+    let its : Keeps run r before after s' opened = subst (λ (x : Record). Keeps run x before after s' opened) same keeps in
     record { middle = after; counts = its.counts; tells = tells_other after; stands = its.stands; call = its.call }
-takes_new_as run i at (judged.Clock r) p before after s' opened is fresh keeps = absurd (let clock : p.is_clock ≡ true = ap (λ (q : Plan). q.is_clock) is in cc)
-takes_new_as run i at (judged.Told a) p before after s' opened is fresh keeps = absurd is
+takes_new_as run i at (judged.Clock r) p before after s' opened is fresh keeps = absurd (let made : judged.New p.accepted ≡ judged.Clock r = new_is p (judged.Clock r) is fresh in cc)
+takes_new_as run i at (judged.Told a) p before after s' opened is fresh keeps = absurd (let made : judged.New p.accepted ≡ judged.Told a = new_is p (judged.Told a) is fresh in cc)
 
 pub takes_new : (s : StoreNow) (run : Run) (i : Input) (at : ℕ) (p : Plan) (before after : Tally) (s' : StoreNow) (opened : Option CallId)
     → ((rs : List Record) → StandsFor s rs → Plans (judgement_within (room_of s) rs (judge history_keeper (history_of rs) i at)) (Ok p)) → p.is_clock ≡ false
@@ -97,11 +116,13 @@ takes_new s run i at p before after s' opened on_book fresh keeps stands =
 takes_clock_as : (run : Run) (i : Input) (at : ℕ) (j : Judged) (p : Plan) (before middle after : Tally) (s' : StoreNow) (opened : Option CallId)
     → Plans j (Ok p) → p.is_clock ≡ true → Keeps run p.accepted before middle s' opened
     → ((run : Run) → StandsAtRun s' run → TellsAnswer (tells_repeat (judge history_keeper run.history i at)) middle after) → Takes run i at j before after s' opened
-takes_clock_as run i at (judged.New r) p before middle after s' opened is clock keeps tells = absurd (let fresh : p.is_clock ≡ false = ap (λ (q : Plan). q.is_clock) is in cc)
+takes_clock_as run i at (judged.New r) p before middle after s' opened is clock keeps tells = absurd (let made : judged.Clock p.accepted ≡ judged.New r = clock_is p (judged.New r) is clock in cc)
 takes_clock_as run i at (judged.Clock r) p before middle after s' opened is clock keeps tells =
-    let its : Keeps run r before middle s' opened = subst (λ (q : Plan). Keeps run q.accepted before middle s' opened) is keeps in
+    let made : judged.Clock p.accepted ≡ judged.Clock r = clock_is p (judged.Clock r) is clock in
+    let same : p.accepted ≡ r = cc in
+    let its : Keeps run r before middle s' opened = subst (λ (x : Record). Keeps run x before middle s' opened) same keeps in
     record { middle = middle; counts = its.counts; tells = tells (run_with run r) its.stands; stands = its.stands; call = its.call }
-takes_clock_as run i at (judged.Told a) p before middle after s' opened is clock keeps tells = absurd is
+takes_clock_as run i at (judged.Told a) p before middle after s' opened is clock keeps tells = absurd (let made : judged.Clock p.accepted ≡ judged.Told a = clock_is p (judged.Told a) is clock in cc)
 
 pub takes_clock : (s : StoreNow) (run : Run) (i : Input) (at : ℕ) (p : Plan) (before middle after : Tally) (s' : StoreNow) (opened : Option CallId)
     → ((rs : List Record) → StandsFor s rs → Plans (judgement_within (room_of s) rs (judge history_keeper (history_of rs) i at)) (Ok p)) → p.is_clock ≡ true
@@ -113,13 +134,14 @@ takes_clock s run i at p before middle after s' opened on_book clock keeps tells
 
 takes_told_as : (run : Run) (i : Input) (at : ℕ) (j : Judged) (a : Answer) (before after : Tally) (s : StoreNow)
     → Plans j (Err (plan_fault.Told a)) → TellsAnswer (is_repeat a) before after → StandsAtRun s run → Takes run i at j before after s None
-takes_told_as run i at (judged.New r) a before after s is tells stands = absurd is
-takes_told_as run i at (judged.Clock r) a before after s is tells stands = absurd is
+takes_told_as run i at (judged.New r) a before after s is tells stands = absurd cc
+takes_told_as run i at (judged.Clock r) a before after s is tells stands = absurd cc
 takes_told_as run i at (judged.Told b) a before after s is tells stands =
+    let same : a ≡ b = cc in
     record {
       middle = before;
       counts = counts_none before;
-      tells = subst (λ (c : Answer). TellsAnswer (is_repeat c) before after) is tells;
+      tells = subst (λ (c : Answer). TellsAnswer (is_repeat c) before after) same tells;
       stands = record { stands = stands.stands; history = stands.history; room = stands.room };
       call = refl;
     }

@@ -23,8 +23,8 @@ use Rattle.iss_agreement.proofs.Records.{step_records}
 use Rattle.iss_state.specs.Bounds.{AreWithin, IsWithin}
 use Rattle.iss_state.specs.Sound.{AreInForm, IsSoundAt}
 use Rattle.iss_state.proofs.invariants.Legal.{records_sound}
-use Rattle.iss_store.specs.Standing.{AreHistory}
-use Rattle.iss_store.specs.Values.{StoreNow}
+use Rattle.iss_standing.specs.Standing.{AreHistory}
+use Rattle.iss_opening.specs.Values.{StoreNow}
 use Rattle.iss_drill.specs.declared.tally.Tally.{Tally}
 use Rattle.iss_drill.specs.Drills.{held_of_users}
 use Rattle.iss_drill.specs.Giving.{HasGiven}

@@ -5,24 +5,30 @@ use Rattle.iss_model.specs.declared.currency.Currency.TheVariants.{Usd}
 use Rattle.iss_model.specs.declared.account.Account.TheVariants as account
 use Rattle.iss_model.specs.rules.Facts.{balance_in}
 use Rattle.iss_model.specs.rules.Histories.{History, history_facts, history_of}
-use Rattle.iss_model.specs.run.Rooms.{one_journal}
+use Rattle.iss_model.specs.run.Rooms.{Room}
 use Rattle.iss_model.specs.run.Runs.{Run, run_after}
 use Rattle.iss_model.specs.state.Cores.{core_facts}
 use Rattle.iss_model.specs.texts.DrillLines.{DrillTotals, drill_line}
 use Rattle.iss_core.proofs.OnBook.{facts_on_book}
-use Rattle.iss_store.specs.Values.{StoreNow}
-use Rattle.iss_store.specs.Standing.{StandsFor}
+use Rattle.iss_opening.specs.Values.{StoreNow}
+use Rattle.iss_standing.specs.Rooms.{room_in}
+use Rattle.iss_opening.specs.Standing.{StandsFor, IsOpenedOn}
 use Rattle.iss_drill.specs.declared.tally.Tally.{Tally}
 use Rattle.iss_drill.specs.declared.report.Totals.{Totals}
-use Rattle.iss_drill.specs.Drills.{drill_run, drill_lines, drill_totals, drill_text, held_of_users}
+use Rattle.iss_drill.specs.Drills.{drill_form, drill_seat, drill_run, drill_lines, drill_totals, drill_text, held_of_users}
 use Rattle.iss_drill.specs.Tallies.{no_tally}
 use Rattle.iss_drill.specs.Reports.{totals_in, totals_by, IsTotals}
 use Rattle.iss_drill.specs.Giving.{HasGiven}
 
-pub begun : (n : ℕ) (s : StoreNow) → StandsFor s [] → s.place.to ≡ 1048576 + 512 * n → HasGiven (drill_run n) [] no_tally s
-begun n s stands to =
+pub begun : (n : ℕ) (s : StoreNow) → IsOpenedOn (drill_form s.layout.size) drill_seat [] s → s.layout.size ≡ 1048576 + 512 * n → HasGiven (drill_run n) [] no_tally s
+begun n s opened size =
     record {
-      stands = record { stands = stands; history = refl; room = ap (λ (size : ℕ). Some (one_journal size)) to };
+      stands =
+          record {
+            stands = opened.stands;
+            history = refl;
+            room = ap (λ (room : Room). Some room) opened.room_is ∙ ap (λ (bytes : ℕ). Some (room_in (drill_form bytes) drill_seat)) size;
+          };
       approved = refl;
       declined = refl;
       notices = refl;

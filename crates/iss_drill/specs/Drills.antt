@@ -19,10 +19,11 @@ use Rattle.iss_model.specs.rules.Facts.{Facts, balance_in, held_in}
 use Rattle.iss_model.specs.rules.Stepping.{step}
 use Rattle.iss_model.specs.rules.Judging.{judge}
 use Rattle.iss_model.specs.rules.Histories.{History, nothing_yet, history_facts, history_keeper}
-use Rattle.iss_model.specs.run.Rooms.{one_journal}
 use Rattle.iss_model.specs.run.Transcripts.{Reading, sound, faulty}
 use Rattle.iss_model.specs.run.Runs.{Run, judgement_in, response, run_after}
 use Rattle.iss_model.specs.texts.DrillLines.{DrillTotals, drill_line}
+use Rattle.iss_halves.specs.Forms.{Form, Seat, seat_at}
+use Rattle.iss_standing.specs.Rooms.{room_in}
 use Rattle.iss_drill.specs.declared.run.TheConstants.{FOR_ALL, FOR_EACH}
 use Rattle.iss_drill.specs.declared.setup.TheConstants.{INPUTS}
 use Rattle.iss_drill.specs.declared.fault.DrillFault.{DrillFault}
@@ -83,9 +84,17 @@ repeats_among s (line ∷ lines) = (if is_told_repeat s line then 1 else 0) + re
 
 -- ---- the lines
 
--- the run of a drill of n events before its first line: a device of 1048576 + 512 n bytes, formatted with instance 0
+-- a device of this size in one journal, formatted with instance 0
+abbrev pub drill_form : ℕ → Form
+drill_form size = record { halved = false; instance = 0; size = size }
+
+-- where its records stand: none of them is in an image
+abbrev pub drill_seat : Seat
+drill_seat = seat_at false 0
+
+-- the run of a drill of n events before its first line, on a device of 1048576 + 512 n bytes
 abbrev pub drill_run : ℕ → Run
-drill_run n = record { instance = 0; room = Some (one_journal (FOR_ALL + FOR_EACH * n)); history = nothing_yet }
+drill_run n = record { instance = 0; room = Some (room_in (drill_form (FOR_ALL + FOR_EACH * n)) drill_seat); history = nothing_yet }
 
 -- the first lines of the set-up, up to this number, which have no stamp
 unfoldable pub setup_lines : ℕ → List Reading

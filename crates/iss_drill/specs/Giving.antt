@@ -10,9 +10,9 @@ use Rattle.iss_model.specs.rules.Histories.{history_keeper, history_of}
 use Rattle.iss_model.specs.run.Rooms.{room_left}
 use Rattle.iss_model.specs.run.Transcripts.{Reading, sound}
 use Rattle.iss_model.specs.run.Runs.{Run, judgement_in, response_as, run_after}
-use Rattle.iss_store.specs.Numbers.{is_from_one}
-use Rattle.iss_store.specs.Values.{StoreNow, room_of}
-use Rattle.iss_store.specs.Standing.{StandsFor}
+use Rattle.iss_opening.specs.Numbers.{is_from_one}
+use Rattle.iss_opening.specs.Values.{StoreNow, room_of}
+use Rattle.iss_opening.specs.Standing.{StandsFor}
 use Rattle.iss_drill.specs.declared.tally.Tally.{Tally}
 use Rattle.iss_drill.specs.Generated.{drawn}
 use Rattle.iss_drill.specs.Setup.{setup_input}

@@ -25,7 +25,7 @@ pub(crate) fn give<E: Edge>(
     at: u64,
     tally: &mut Tally,
 ) -> Result<(Store, Option<CallId>), AllocError>
-    requires size { E.extent device.old ≡ store.place.to }
+    requires size { E.extent device.old ≡ store.layout.size }
     requires input_form { IsTrue (is_in_form input.now) }
     requires stamp { IsTrue (is_stamp at) }
     requires room { tally.old.lines < 2 ^ 20 }
@@ -38,7 +38,7 @@ pub(crate) fn give<E: Edge>(
     ensures numbered { IfOk result (λ x. IfSome x.1 IsCallNumbered) }
     ensures few { OnOk result (IsFew (tally.old.lines + 1) tally.new) }
     ensures kept { E.extent device.new ≡ E.extent device.old }
-    ensures size { IfOk result (λ x. x.0.place.to ≡ store.place.to) }
+    ensures size { IfOk result (λ x. x.0.layout.size ≡ store.layout.size) }
 {
     let taken = take(alloc, store, device, input, at, tally)?;
     tally.lines += 1;
@@ -48,13 +48,13 @@ pub(crate) fn give<E: Edge>(
 /// Plans an input and keeps its record, or tells it why it makes none.
 fn take<E: Edge>(
     alloc: Global,
-    store: Store,
+    mut store: Store,
     device: &mut E,
     input: &Input,
     at: u64,
     tally: &mut Tally,
 ) -> Result<(Store, Option<CallId>), AllocError>
-    requires size { E.extent device.old ≡ store.place.to }
+    requires size { E.extent device.old ≡ store.layout.size }
     requires input_form { IsTrue (is_in_form input.now) }
     requires stamp { IsTrue (is_stamp at) }
     requires room { tally.old.lines < 2 ^ 20 }
@@ -64,7 +64,7 @@ fn take<E: Edge>(
     ensures numbered { IfOk result (λ x. IfSome x.1 IsCallNumbered) }
     ensures few { OnOk result (IsFew (tally.old.lines + 1) tally.new) }
     ensures kept { E.extent device.new ≡ E.extent device.old }
-    ensures size { IfOk result (λ x. x.0.place.to ≡ store.place.to) }
+    ensures size { IfOk result (λ x. x.0.layout.size ≡ store.layout.size) }
 {
     match store.plan(alloc, input, at) {
         Ok(planned) => {
@@ -92,7 +92,7 @@ fn keep<E: Edge>(
     planned: Planned,
     tally: &mut Tally,
 ) -> Result<(Store, Option<CallId>), AllocError>
-    requires size { E.extent device.old ≡ store.place.to }
+    requires size { E.extent device.old ≡ store.layout.size }
     requires plan { IsPlanOf store planned }
     requires room { tally.old.lines < 2 ^ 20 }
     requires few { IsFew tally.old.lines tally.old }
@@ -102,7 +102,7 @@ fn keep<E: Edge>(
     ensures numbered { IfOk result (λ x. IfSome x.1 IsCallNumbered) }
     ensures few { OnOk result (IsFew (tally.old.lines + 1) tally.new) }
     ensures kept { E.extent device.new ≡ E.extent device.old }
-    ensures size { IfOk result (λ x. x.0.place.to ≡ store.place.to) }
+    ensures size { IfOk result (λ x. x.0.layout.size ≡ store.layout.size) }
 {
     let Ok((next, durable)) = store.commit(alloc, device, planned) else {
         return Err(AllocError);

@@ -5,9 +5,9 @@ ghost use Rattle.iss_journal.specs.declared.layout.TheConstants.{LEAST_SIZE, GRE
 ghost use Rattle.iss_model.specs.Forms.{is_in_form};
 ghost use Rattle.iss_model.specs.run.Runs.{Run};
 ghost use Rattle.iss_texts.specs.Sending.{Says, SaysSome};
-ghost use Rattle.iss_store.specs.Standing.{StandsFor};
+ghost use Rattle.iss_opening.specs.Standing.{IsOpenedOn};
 ghost use Rattle.iss_drill.specs.declared.limits.TheConstants.{MOST_EVENTS};
-ghost use Rattle.iss_drill.specs.Drills.{drill_run, setup_lines, drill_lines, drill_text, DrillCause};
+ghost use Rattle.iss_drill.specs.Drills.{drill_form, drill_seat, drill_run, setup_lines, drill_lines, drill_text, DrillCause};
 ghost use Rattle.iss_drill.specs.Tallies.{IsFew};
 ghost use Rattle.iss_drill.specs.Giving.{Gives, GivesSetup, GivesEvent};
 
@@ -68,8 +68,8 @@ fn drilled(alloc: Global, n: u32) -> Result<Vec<u8>, AllocError>
 /// A store without a record, and its device of `size` bytes. A call on a device in memory fails only if an allocation does.
 fn fresh_store(alloc: Global, size: u32) -> Result<(Store, Quiet), AllocError>
     requires { LEAST_SIZE ≤ size }
-    ensures stands { IfOk result (λ x. StandsFor x.0 []) }
-    ensures size { IfOk result (λ x. x.0.place.to ≡ size) }
+    ensures opened { IfOk result (λ x. IsOpenedOn (drill_form x.0.layout.size) drill_seat [] x.0) }
+    ensures size { IfOk result (λ x. x.0.layout.size ≡ size) }
     ensures extent { IfOk result (λ x. ⟦<Quiet as Edge>⟧.extent x.1 ≡ size) }
 {
     let bytes = vec![in alloc; 0; size as usize]?;
@@ -79,13 +79,14 @@ fn fresh_store(alloc: Global, size: u32) -> Result<(Store, Quiet), AllocError>
     Ok((store, device))
 }
 
-/// Makes a device one of instance 0 that stands for no records, and opens it. It fails only if an allocation does.
+/// Makes a device one journal of instance 0 that stands for no records, and opens it. It fails only if an allocation does.
 fn format_and_open<E: Edge>(alloc: Global, edge: &mut E) -> Result<Store, AllocError>
     requires least { LEAST_SIZE ≤ E.extent edge.old }
     requires most { E.extent edge.old ≤ GREATEST_SIZE }
-    ensures stands { IfOk result (λ store. (device : List ℕ)
-        → IsSomeAnd (E.told edge.new) (λ world. device ≡ world.device) → StandsFor store []) }
-    ensures size { IfOk result (λ store. store.place.to ≡ E.extent edge.old) }
+    ensures opened { IfOk result (λ store. (device : List ℕ)
+        → IsSomeAnd (E.told edge.new) (λ world. device ≡ world.device)
+        → IsOpenedOn (drill_form store.layout.size) drill_seat [] store) }
+    ensures size { IfOk result (λ store. store.layout.size ≡ E.extent edge.old) }
     ensures kept { E.extent edge.new ≡ E.extent edge.old }
 {
     let Ok(()) = Journal::format(edge, 0) else {
@@ -113,14 +114,14 @@ fn set_up(
     device: &mut Quiet,
     tally: &mut Tally,
 ) -> Result<Store, AllocError>
-    requires size { ⟦<Quiet as Edge>⟧.extent device.old ≡ fresh.place.to }
+    requires size { ⟦<Quiet as Edge>⟧.extent device.old ≡ fresh.layout.size }
     requires start { tally.old.lines ≡ 0 }
     requires few { IsFew 0 tally.old }
     ensures given { (start : Run) → Gives start [] (setup_lines INPUTS) tally.old tally.new fresh result }
     ensures lines { OnOk result (tally.new.lines ≡ INPUTS) }
     ensures few { OnOk result (IsFew INPUTS tally.new) }
     ensures kept { ⟦<Quiet as Edge>⟧.extent device.new ≡ ⟦<Quiet as Edge>⟧.extent device.old }
-    ensures size { IfOk result (λ s. s.place.to ≡ fresh.place.to) }
+    ensures size { IfOk result (λ s. s.layout.size ≡ fresh.layout.size) }
 {
     let mut store = fresh;
     'inputs: for number in 0..INPUTS {
@@ -139,14 +140,14 @@ fn give_setup(
 ) -> Result<Store, AllocError>
     requires least { 1 ≤ number }
     requires most { number ≤ INPUTS }
-    requires size { ⟦<Quiet as Edge>⟧.extent device.old ≡ store.place.to }
+    requires size { ⟦<Quiet as Edge>⟧.extent device.old ≡ store.layout.size }
     requires room { tally.old.lines < 2 ^ 20 }
     requires few { IsFew tally.old.lines tally.old }
     ensures given { GivesSetup number tally.old tally.new store result }
     ensures lines { OnOk result (tally.new.lines ≡ tally.old.lines + 1) }
     ensures few { OnOk result (IsFew (tally.old.lines + 1) tally.new) }
     ensures kept { ⟦<Quiet as Edge>⟧.extent device.new ≡ ⟦<Quiet as Edge>⟧.extent device.old }
-    ensures size { IfOk result (λ s. s.place.to ≡ store.place.to) }
+    ensures size { IfOk result (λ s. s.layout.size ≡ store.layout.size) }
 {
     let (next, _) = give(alloc, store, device, &setup_input(number), 0, tally)?;
     Ok(next)
@@ -161,7 +162,7 @@ fn give_events(
     tally: &mut Tally,
 ) -> Result<Store, AllocError>
     requires most { n ≤ MOST_EVENTS }
-    requires size { ⟦<Quiet as Edge>⟧.extent device.old ≡ ready.place.to }
+    requires size { ⟦<Quiet as Edge>⟧.extent device.old ≡ ready.layout.size }
     requires start { tally.old.lines ≡ INPUTS }
     requires few { IsFew INPUTS tally.old }
     ensures given { Gives (drill_run n) (setup_lines INPUTS) (drill_lines n) tally.old tally.new ready result }
@@ -190,7 +191,7 @@ fn give_event(
     tally: &mut Tally,
 ) -> Result<Store, AllocError>
     requires most { number ≤ MOST_EVENTS }
-    requires size { ⟦<Quiet as Edge>⟧.extent device.old ≡ store.place.to }
+    requires size { ⟦<Quiet as Edge>⟧.extent device.old ≡ store.layout.size }
     requires form { IsTrue (is_in_form event.now) }
     requires room { tally.old.lines + 1 < 2 ^ 20 }
     requires few { IsFew tally.old.lines tally.old }
@@ -198,7 +199,7 @@ fn give_event(
     ensures lines { OnOk result (tally.new.lines ≤ tally.old.lines + 2) }
     ensures few { OnOk result (IsFew tally.new.lines tally.new) }
     ensures kept { ⟦<Quiet as Edge>⟧.extent device.new ≡ ⟦<Quiet as Edge>⟧.extent device.old }
-    ensures size { IfOk result (λ s. s.place.to ≡ store.place.to) }
+    ensures size { IfOk result (λ s. s.layout.size ≡ store.layout.size) }
 {
     let at = MINUTE * u64::from(number);
     let (next, opened) = give(alloc, store, device, event, at, tally)?;

@@ -179,7 +179,7 @@ at_found false instance size second other point found image device P whole has h
     }
 
 -- records that are shown stand above what is below the journal
-shown_front : (region : Region) (bodies : List (List ℕ)) (device : List ℕ) → Shows region bodies device → take (length region.below) device ≡ region.below
+pub shown_front : (region : Region) (bodies : List (List ℕ)) (device : List ℕ) → Shows region bodies device → take (length region.below) device ≡ region.below
 shown_front region bodies device shows =
     ap (λ (l : List ℕ). take (length region.below) l) (shows.ends.is ∙ append_assoc region.below (frames bodies) (shows.gate ∷ shows.rest))
     ∙ take_at region.below (frames bodies ++ shows.gate ∷ shows.rest) (length region.below) refl

@@ -84,6 +84,15 @@ FindsImage layout (Err OutOfMemory) a b = Unit {0}
 FindsImage layout (Err NotFormatted) a b = ⊥
 FindsImage layout (Err (Full free need)) a b = ⊥
 
+-- a fault of the disk, a failed allocation, or a bad record
+abbrev pub FailsAsImage : {T : Type 0} → Result T JournalFault → Type 0
+FailsAsImage (Ok value) = Unit {0}
+FailsAsImage (Err Disk) = Unit {0}
+FailsAsImage (Err OutOfMemory) = Unit {0}
+FailsAsImage (Err (BadRecord place)) = Unit {0}
+FailsAsImage (Err NotFormatted) = ⊥
+FailsAsImage (Err (Full free need)) = ⊥
+
 -- the region of the journal after an image that was found
 abbrev pub region_found : Bool → ℕ → ℕ → Bool → List ℕ → List ℕ → Region
 region_found true instance size second image device =

@@ -1,6 +1,6 @@
 //! A device that is opened, in one journal or in halves.
 
-ghost use Rattle.std.specs.Prelude.{◌≡◌, ◌+◌, ◌≤◌, ◌<◌, length, IsTrue, OnOk, IfOk};
+ghost use Rattle.std.specs.Prelude.{◌≡◌, ◌+◌, ◌≤◌, ◌<◌, false, [], length, IsTrue, OnOk, IfOk};
 ghost use Rattle.iss_edge.specs.World.{Told, Stays};
 ghost use Rattle.iss_edge.specs.Calls.{Same, HearsNothing};
 ghost use Rattle.iss_journal.specs.Answers.{DiskCause, DiskAlone, DiskOrMemory};
@@ -9,7 +9,7 @@ ghost use Rattle.iss_halves.specs.declared.layout.TheConstants.{BESIDE_IMAGE, HA
 ghost use Rattle.iss_halves.specs.Halves.{half_size, half_start};
 ghost use Rattle.iss_halves.specs.Forms.{version_of, turned};
 ghost use Rattle.iss_halves.specs.Standing.{gate_after, end_of};
-ghost use Rattle.iss_halves.specs.Finding.{FindsLayout, FindsHalves, FindsImage};
+ghost use Rattle.iss_halves.specs.Finding.{FindsLayout, FindsHalves, FindsImage, FailsAsImage};
 ghost use Rattle.iss_halves.specs.Turning.{turned_place, TurnsGood, TurnsGoing};
 
 use crate::header::{instance_of, selector_of};
@@ -86,12 +86,37 @@ impl Halves {
         self.instance
     }
 
+    /// Whether the device is in halves.
+    pub fn is_halved(&self) -> bool
+        ensures { result ≡ self.now.halved }
+    {
+        self.halved
+    }
+
+    /// The device's size in bytes.
+    pub fn size(&self) -> u64
+        ensures { result ≡ self.now.size }
+    {
+        self.size
+    }
+
+    /// How many bytes each half of a device in halves has.
+    pub fn half_size(&self) -> u64
+        requires { IsTrue self.now.halved }
+        ensures { result ≡ half_size self.now.size }
+    {
+        size_of_half(self.size)
+    }
+
     /// The current half's image, of no bytes if there are no halves. `BadRecord` names the half's first place, exactly if the length
     /// there leaves no room for a gate. Else a failure is `Disk` or `OutOfMemory`.
     #[tactic(auto, using(crate::proofs::Findings::image_none, crate::proofs::Findings::image_long, crate::proofs::Findings::image_there, crate::proofs::Findings::image_no_disk, crate::proofs::Findings::image_unread))]
     pub fn image<E: Edge>(&self, alloc: Global, edge: &mut E) -> Result<Bytes, JournalFault>
         requires room { self.now.size ≤ E.extent edge.old }
         ensures finds { Told (FindsImage self.now result) (E.told edge.old) (E.told edge.new) }
+        ensures fits { IfOk result (λ image. IsTrue self.now.halved → BESIDE_IMAGE + length image ≤ half_size self.now.size) }
+        ensures none { IfOk result (λ image. self.now.halved ≡ false → image ≡ []) }
+        ensures faults { FailsAsImage result }
         ensures same { Told Same (E.told edge.old) (E.told edge.new) }
         ensures cause { DiskCause (E.faults edge.old) (E.faults edge.new) result }
         ensures heard { Told HearsNothing (E.heard edge.old) (E.heard edge.new) }

@@ -17,3 +17,7 @@ pub mod NoticesHolders
 pub mod NoticesNumbers
 pub mod NoticesForm
 pub mod WholeForms
+pub mod SpansWindows
+pub mod SpansBooks
+pub mod SpansHistories
+pub mod HistoryForms

@@ -2,7 +2,6 @@
 use Rattle.std.proofs.Common.{◌≡◌, ◌&&◌, refl, Bool, List, true, ℕ}
 use Rattle.iss_model.specs.declared.state.State.{State}
 use Rattle.iss_model.specs.Tokens.{is_token}
-use Rattle.iss_states.specs.Rebuilding.{rebuilt}
 use Rattle.iss_sound.specs.Sound.{IsSoundState}
 use Rattle.iss_sound.proofs.Apart.{settings_apart}
 use Rattle.iss_restored.proofs.CoresAgain.{core_again}

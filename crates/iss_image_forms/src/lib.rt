@@ -4,6 +4,8 @@
 //! definitions.
 #![tactic(auto)]
 
+mod histories;
 mod states;
 
+pub use histories::histories_are_in_image_form;
 pub use states::sound_states_are_in_image_form;

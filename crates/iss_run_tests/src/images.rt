@@ -54,15 +54,59 @@ pub(crate) fn image_of(
     Ok(image)
 }
 
-/// How many records stand on a device, and the place of the gate after them.
+/// Four bytes at a place as a number, the highest first. Past the end it is 0.
+fn number_at(device: &[u8], at: usize) -> usize {
+    match device.get(at..) {
+        Some([a, b, c, d, ..]) => u32::from_be_bytes([*a, *b, *c, *d]) as usize,
+        _ => 0,
+    }
+}
+
+/// The place of the current half of a device in halves, right after the byte that names it.
+fn half_start(device: &[u8]) -> usize {
+    let half = device.len().saturating_sub(17) / 2;
+    if device.get(16) == Some(&1) {
+        half.saturating_add(17)
+    } else {
+        17
+    }
+}
+
+/// Whether a device is in halves, by the version in its header.
+fn is_halved(device: &[u8]) -> bool {
+    device.get(5) == Some(&2)
+}
+
+/// How many records are in the image of the current half: an image begins with that number. One journal has no image.
+pub(crate) fn point_on(device: &[u8]) -> usize {
+    let start = half_start(device);
+    if !is_halved(device) || number_at(device, start) == 0 {
+        return 0;
+    }
+    number_at(device, start.saturating_add(4))
+}
+
+/// The place of the first gate: right after the header, or after the image of the current half.
+fn first_gate(device: &[u8]) -> usize {
+    if !is_halved(device) {
+        return 16;
+    }
+    let start = half_start(device);
+    start
+        .saturating_add(4)
+        .saturating_add(number_at(device, start))
+}
+
+/// How many records stand on a device, those of an image among them, and the place of the gate after them.
 pub(crate) fn records_on(device: &[u8]) -> (usize, usize) {
-    let mut gate = 16usize;
+    let point = point_on(device);
+    let mut gate = first_gate(device);
     for count in 0..device.len() {
-        let [1, a, b, c, d, ..] = device.get(gate..).unwrap_or(&[]) else {
-            return (count, gate);
-        };
-        let length = u32::from_be_bytes([*a, *b, *c, *d]);
-        gate = gate.saturating_add(5).saturating_add(length as usize);
+        if device.get(gate) != Some(&1) {
+            return (point.saturating_add(count), gate);
+        }
+        let length = number_at(device, gate.saturating_add(1));
+        gate = gate.saturating_add(5).saturating_add(length);
     }
     (0, gate)
 }

@@ -7,6 +7,8 @@
 #[cfg(test)]
 mod answers;
 #[cfg(test)]
+mod halves;
+#[cfg(test)]
 mod images;
 #[cfg(test)]
 mod lines;

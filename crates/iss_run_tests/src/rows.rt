@@ -10,6 +10,18 @@ pub(crate) const HEADER: &[u8] = b"\x01ISS1\x01\0\0\0\0\0\0\0\0\0\0";
 
 pub(crate) const HEADER_OF_7: &[u8] = b"\x01ISS1\x01\0\0\0\0\0\0\0\0\0\x07";
 
+/// The header of a device in halves, of instance 0. Zeros after it name the first half, with an image of no bytes and no records.
+pub(crate) const HALVES: &[u8] = b"\x01ISS1\x02\0\0\0\0\0\0\0\0\0\0";
+
+pub(crate) const HALVES_OF_7: &[u8] = b"\x01ISS1\x02\0\0\0\0\0\0\0\0\0\x07";
+
+/// The selector of the first half, the length of its image, and its first gate.
+const NOTHING_IN_HALVES: &[u8] = b"\0\0\0\0\0\0";
+
+/// The image of the user `u1`, made by the event `t1`, after its length and the selector. Its verdict is one that no event has.
+const BAD_IMAGE: &[u8] =
+    b"\0\0\0\0\x49\0\0\0\x01\0\0\0\0\0\0\0\0\0\0\0\x02\x02t1\x02u1\0\0\0\x01\0\0\0\x01\x01\0\0\0\0\0\0\0\0\0\0\0\0\0\0\0\x01\x02\0";
+
 /// The record of the user `u1`, made by the event `t1`, after its open gate.
 pub(crate) const USER_RECORD: &[u8] = b"\x01\0\0\0\x0f\x01\0\0\0\0\0\0\0\0\x02t1\x02u1";
 
@@ -108,7 +120,7 @@ static PLAIN: [Run; 10] = [
         done: "W0S.W1S.W0S.",
         leaves: Some(Device {
             size: 100,
-            pieces: &[HEADER_OF_7, &[0], &[9; 83]],
+            pieces: &[HALVES_OF_7, NOTHING_IN_HALVES, &[9; 78]],
             lines: "",
         }),
         calls: 6,
@@ -185,8 +197,8 @@ static PLAIN: [Run; 10] = [
     },
 ];
 
-/// Devices that stand for no records. No input is taken, and nothing is written.
-static UNOPENED: [Run; 11] = [
+/// Devices on which no records stand. No input is taken, and nothing is written.
+static UNOPENED: [Run; 14] = [
     Run {
         what: "a device of no bytes",
         device: Device {
@@ -226,8 +238,35 @@ static UNOPENED: [Run; 11] = [
     Run {
         what: "a later version",
         device: Device {
-            size: 17,
-            pieces: &[b"\x01ISS1\x02"],
+            size: 27,
+            pieces: &[b"\x01ISS1\x03"],
+            lines: "",
+        },
+        ..REFUSED
+    },
+    Run {
+        what: "halves without a gate",
+        device: Device {
+            size: 26,
+            pieces: &[HALVES],
+            lines: "",
+        },
+        ..REFUSED
+    },
+    Run {
+        what: "an image that leaves no room for a gate",
+        device: Device {
+            size: 100,
+            pieces: &[HALVES, b"\0\0\0\0\x25"],
+            lines: "",
+        },
+        ..REFUSED
+    },
+    Run {
+        what: "an image of no sound state",
+        device: Device {
+            size: 300,
+            pieces: &[HALVES, BAD_IMAGE],
             lines: "",
         },
         ..REFUSED

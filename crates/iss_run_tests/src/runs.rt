@@ -1,4 +1,5 @@
 //! What each run does, and that each of its calls may fail.
+use crate::halves::in_halves;
 use crate::playing::{Run, play, start_of};
 use crate::replays::lines;
 use crate::rows::{WORDS, plain, unopened};
@@ -44,6 +45,7 @@ fn each_run_does_what_it_has_to(rt: HostRuntime) -> Result<(), Fail> {
     assert_eq!(rt; first_wrong(rt.alloc(), plain())?, None);
     assert_eq!(rt; first_wrong(rt.alloc(), lines())?, None);
     assert_eq!(rt; first_wrong(rt.alloc(), served())?, None);
+    assert_eq!(rt; first_wrong(rt.alloc(), in_halves())?, None);
     Ok(())
 }
 

@@ -3,7 +3,7 @@ use crate::playing::{Come, Device, OPENING, Run};
 use crate::rows::HEADER_OF_7;
 
 /// A product that a gateway funds, a user and a card.
-const SETTINGS: &str =
+pub(crate) const SETTINGS: &str =
     r#"{"type":"product","token":"p1","product":"g","currency":"USD","funding":"GATEWAY"}
 {"type":"user","token":"t1","user":"u1"}
 {"type":"card","token":"t2","card":"c1","user":"u1","product":"g"}
@@ -98,7 +98,7 @@ const ENDS_EARLY: &[Come<'static>] = &[
 ];
 
 /// Two purchases wait for the gateway at once. It funds the second one first and then refuses the first; a client comes and ends.
-const TWO_IN_FLIGHT: &[Come<'static>] = &[
+pub(crate) const TWO_IN_FLIGHT: &[Come<'static>] = &[
     Come::Client(1),
     Come::Asks(1, FIRST),
     Come::Client(2),

@@ -14,7 +14,7 @@ use Rattle.iss_model.specs.declared.input.Record.{Record}
 use Rattle.iss_session.specs.Sessions.{count}
 use Rattle.iss_session.specs.Happenings.{closings, last_steps}
 use Rattle.iss_clients.proofs.Closes.{told_adds_then}
-use Rattle.iss_store.specs.Values.{StoreNow}
+use Rattle.iss_opening.specs.Values.{StoreNow}
 use Rattle.iss_serve.specs.Closings.{open_channels}
 use Rattle.iss_serve.specs.Held.{HeldNow, idle, session_at}
 

@@ -22,7 +22,7 @@ use Rattle.iss_link.specs.declared.heard.Heard.{Heard}
 use Rattle.iss_link.specs.Values.{LinksNow, heard_of, link_state, state_on}
 use Rattle.iss_link.specs.declared.heard.LinkState.{LinkState}
 use Rattle.iss_link.specs.Hearing.{Listens, closing}
-use Rattle.iss_store.specs.Values.{StoreNow}
+use Rattle.iss_opening.specs.Values.{StoreNow}
 use Rattle.iss_serve.specs.declared.requests.Request.{Request}
 use Rattle.iss_serve.specs.Requests.{ReadsOn}
 use Rattle.iss_serve.specs.Held.{HeldNow, idle, to_judge, sending, taking, arrived, listens_to}

@@ -1,11 +1,12 @@
 -- An input is judged: its record is made to last, and what it says goes out; or its client is told why it makes none.
 use Rattle.std.proofs.Common.{◌≡◌, ℕ, Bool, true, false, cond, List, [], ◌∷◌, ◌++◌, Some, None, refl, sym, ap, subst, ◌∙◌, append-nil, append_assoc}
-use Rattle.std.specs.Prelude.{Ok, Err}
+use Rattle.std.specs.Prelude.{Option, Ok, Err, if◌then◌else◌}
 use Rattle.std.specs.List.{flat_map}
 use Rattle.std.proofs.lemmas.List.{map-append}
 use Rattle.std.proofs.lemmas.List.Sums.{fold-append}
 use Rattle.std.proofs.lemmas.Grind.{flat_map-append}
 use Rattle.iss_edge.specs.Outer.{Outer}
+use Rattle.iss_halves.specs.Forms.{Seat, form_of, seat_at}
 use Rattle.iss_model.specs.declared.decision.Answer.{Answer}
 use Rattle.iss_model.specs.declared.decision.Judged.{Judged}
 use Rattle.iss_model.specs.declared.decision.Judged.TheVariants as judged
@@ -15,7 +16,7 @@ use Rattle.iss_model.specs.rules.Stepping.{step}
 use Rattle.iss_model.specs.rules.Judging.{judge}
 use Rattle.iss_model.specs.rules.Histories.{History, nothing_yet, history_keeper, history_of}
 use Rattle.iss_model.specs.run.Sayings.{said_by, timed, reaction_to_record}
-use Rattle.iss_model.specs.run.Rooms.{one_journal, judgement_within}
+use Rattle.iss_model.specs.run.Rooms.{Room, judgement_within, room_left}
 use Rattle.iss_agreement.proofs.Records.{records_history, step_records}
 use Rattle.iss_session.specs.Desks.{Task, Waiter, desk_with}
 use Rattle.iss_session.specs.Sessions.{Session, Queued, tasks_of}
@@ -25,12 +26,13 @@ use Rattle.iss_session_examples.specs.Program.{program_readers}
 use Rattle.iss_link.specs.declared.gone.Gone as link
 use Rattle.iss_link.specs.declared.gone.Gone.TheVariants.{Asked, Noted, Unreached}
 use Rattle.iss_store.specs.declared.fault.PlanFault.TheVariants as plan_fault
-use Rattle.iss_store.specs.Values.{StoreNow, Plan, DurableNow, said_of, room_of}
-use Rattle.iss_store.specs.Planning.{Plans, judged_as}
-use Rattle.iss_store.specs.Standing.{region_under, StandsFor}
+use Rattle.iss_opening.specs.Values.{StoreNow, form_under, seat_under, room_of}
+use Rattle.iss_store.specs.Values.{Plan, DurableNow, said_of}
+use Rattle.iss_store.specs.Planning.{Plans, judged_as, turns_for, store_turned, store_for}
+use Rattle.iss_opening.specs.Standing.{StandsFor}
 use Rattle.iss_store.specs.Committing.{Commits, CommitsOnBook, Keeps, KeepsPart}
 use Rattle.iss_store.specs.Serving.{tasks_of_record, all_gone, SendsAll, SendsPart}
-use Rattle.iss_store.proofs.NextRecords.{with_record}
+use Rattle.iss_standing.proofs.NextRecords.{with_record}
 use Rattle.iss_serve.specs.Goings.{records_in, SessionGoes}
 use Rattle.iss_serve.specs.Held.{HeldNow, Stage, to_judge, sending, answer_unreached, answers_unreached, call_unreached, noted, session_at}
 use Rattle.iss_serve.specs.Judged.{judged_again, waiting_for, IsPlannedFor}
@@ -43,14 +45,21 @@ use Rattle.iss_serve.proofs.Stages.{sends_on, sends_some}
 
 -- what a plan is of
 plan_is : (j : Judged) (p : Plan) → Plans j (Ok p) → j ≡ judged_as p
-plan_is (judged.New r) p is = sym (ap judged_as is)
-plan_is (judged.Clock r) p is = sym (ap judged_as is)
-plan_is (judged.Told a) p is = absurd is
+plan_is j p is = sym is
 
 answer_is : (j : Judged) (a : Answer) → Plans j (Err (plan_fault.Told a)) → j ≡ judged.Told a
-answer_is (judged.New r) a is = absurd is
-answer_is (judged.Clock r) a is = absurd is
-answer_is (judged.Told b) a is = ap judged.Told (sym is)
+answer_is j a is = sym is
+
+-- a store to whose end gate a record is put is on the same device
+form_turned : (s : StoreNow) (r : Record) → form_under (store_for s r) ≡ form_under s
+form_turned s r = by (turns_for s r)
+  where
+    by : (b : Bool) → form_under (if b then store_turned s else s) ≡ form_under s
+    by true = refl
+    by false = refl
+
+pub same_form : (store next : StoreNow) (p : Plan) (d : DurableNow) → Commits store p next d → form_under next ≡ form_under store
+same_form store next p d commits = ap form_of commits.layout ∙ form_turned store p.accepted
 
 -- what a record says besides its entries goes to nobody
 said_tasks : (instance : ℕ) (waiting : List Waiter) (d : DurableNow) → flat_map (tasks_of instance waiting) (said_of d) ≡ flat_map (tasks_of instance waiting) (flat_map said_by d.entries)
@@ -88,16 +97,15 @@ module _ (store : StoreNow) (h : HeldNow) (q : Queued) (rest : List Queued) wher
     pub answer_on : (x : Outer) → ServesOn (to_judge store h (q ∷ rest)) (sending store h rest (answer_tasks q.client a)) x x
     answer_on x =
         record {
-          instance = refl;
-          to = refl;
+          form_is = refl;
           on_book =
               λ rs stands.
               record {
                 now = rs;
                 stands = stands;
                 goes =
-                    subst (λ (t : Session). SessionGoes program_readers (region_under store) (start rs) t x x) (told_so rs stands)
-                    (told_goes program_readers (region_under store) (start rs) x x refl (ap records_in (told_so rs stands))
+                    subst (λ (t : Session). SessionGoes program_readers (form_under store) (seat_under store) (seat_under store) (start rs) t x x) (told_so rs stands)
+                    (told_goes program_readers (form_under store) (seat_under store) (start rs) x x refl (ap records_in (told_so rs stands))
                     (record { device = refl; trace = sym (append-nil x.world.trace); heard = sym (append-nil x.heard) }));
               };
         }
@@ -141,11 +149,11 @@ module _ (store : StoreNow) (h : HeldNow) (q : Queued) (rest : List Queued) wher
         record {
           on_book =
               λ rs stands.
-              goes_part ⊥ program_readers (region_under store) (start rs) (judged_first (start rs) (start rs).queue) x y
+              goes_part ⊥ program_readers (form_under store) (seat_under store) (seat_under (store_for store p.accepted)) (start rs) (judged_first (start rs) (start rs).queue) x y
               (commit_goes program_readers store (start rs) p.accepted x y refl (stands_there rs stands) (one_made rs stands) good.heard good.world);
         }
 
-    module _ (next : StoreNow) (d : DurableNow) (commits : Commits store p next d) (on_book : (rs : List Record) → StandsFor store rs → CommitsOnBook next rs p d) where
+    module _ (next : StoreNow) (d : DurableNow) (commits : Commits store p next d) (on_book : (rs : List Record) → StandsFor store rs → CommitsOnBook store next rs p d) where
       abbrev now : Stage
       now = sending next waits again (tasks_of_record next d waits.served)
 
@@ -159,11 +167,18 @@ module _ (store : StoreNow) (h : HeldNow) (q : Queued) (rest : List Queued) wher
       history_so : (rs : List Record) → (step history_keeper (history_of rs) p.accepted).world ≡ history_of (rs ++ p.accepted ∷ [])
       history_so rs = sym (fold-append (λ (k : History) (r : Record). (step history_keeper k r).world) nothing_yet rs (p.accepted ∷ []))
 
+      -- the room that the record leaves
+      abbrev left : List Record → Option Room
+      left rs = room_left (room_of store) (history_of rs).records (Some p.accepted)
+
+      room_so : (rs : List Record) → StandsFor store rs → left rs ≡ room_of next
+      room_so rs stands = ap (λ (l : List Record). room_left (room_of store) l (Some p.accepted)) (records_history rs) ∙ sym (on_book rs stands).room
+
       -- the session with these parts
-      abbrev with_parts : ℕ → ℕ → History → List Task → HeldNow → Session
-      with_parts instance size history tasks held =
+      abbrev with_parts : ℕ → Option Room → History → List Task → HeldNow → Session
+      with_parts instance room history tasks held =
           record {
-            run = record { instance = instance; room = Some (one_journal size); history = history };
+            run = record { instance = instance; room = room; history = history };
             clock = held.clock;
             turns = held.turns;
             ready = None;
@@ -173,35 +188,38 @@ module _ (store : StoreNow) (h : HeldNow) (q : Queued) (rest : List Queued) wher
             desk = desk_with tasks waits.served;
           }
 
-      held_same : (rs : List Record) (history : History) (tasks : List Task) → with_parts store.core.instance store.place.to history tasks h ≡ with_parts store.core.instance store.place.to history tasks waits
-      held_same rs history tasks = by p.is_clock
+      held_same : (room : Option Room) (history : History) (tasks : List Task) → with_parts store.core.instance room history tasks h ≡ with_parts store.core.instance room history tasks waits
+      held_same room history tasks = by p.is_clock
         where
-          by : (b : Bool) → with_parts store.core.instance store.place.to history tasks h ≡ with_parts store.core.instance store.place.to history tasks (waiting_for q b h)
+          by : (b : Bool) → with_parts store.core.instance room history tasks h ≡ with_parts store.core.instance room history tasks (waiting_for q b h)
           by true = refl
           by false = refl
 
       leads : (rs : List Record) → StandsFor store rs → judged_first (start rs) (start rs).queue ≡ session_at now (rs ++ p.accepted ∷ [])
       leads rs stands =
           made_so rs stands
-          ∙ ap (λ (ts : List Task). with_parts store.core.instance store.place.to (step history_keeper (history_of rs) p.accepted).world ts h) (said_so rs stands)
-          ∙ ap (λ (k : History). with_parts store.core.instance store.place.to k (tasks_of_record next d waits.served) h) (history_so rs)
-          ∙ held_same rs (history_of (rs ++ p.accepted ∷ [])) (tasks_of_record next d waits.served)
-          ∙ ap (λ (n : ℕ). with_parts n store.place.to (history_of (rs ++ p.accepted ∷ [])) (tasks_of_record next d waits.served) waits) (sym commits.stepped.kept)
-          ∙ ap (λ (n : ℕ). with_parts next.core.instance n (history_of (rs ++ p.accepted ∷ [])) (tasks_of_record next d waits.served) waits) (sym (ap (λ place. place.to) commits.place))
+          ∙ ap (λ (ts : List Task). with_parts store.core.instance (left rs) (step history_keeper (history_of rs) p.accepted).world ts h) (said_so rs stands)
+          ∙ ap (λ (k : History). with_parts store.core.instance (left rs) k (tasks_of_record next d waits.served) h) (history_so rs)
+          ∙ held_same (left rs) (history_of (rs ++ p.accepted ∷ [])) (tasks_of_record next d waits.served)
+          ∙ ap (λ (n : ℕ). with_parts n (left rs) (history_of (rs ++ p.accepted ∷ [])) (tasks_of_record next d waits.served) waits) (sym commits.stepped.kept)
+          ∙ ap (λ (room : Option Room). with_parts next.core.instance room (history_of (rs ++ p.accepted ∷ [])) (tasks_of_record next d waits.served) waits) (room_so rs stands)
+
+      seat_is : seat_under (store_for store p.accepted) ≡ seat_under next
+      seat_is = λ i. seat_at (sym commits.layout i).second (sym commits.point i)
 
       pub commit_on : (x y : Outer) → Quietly (Keeps store p.accepted) x y → ServesOn (to_judge store h (q ∷ rest)) now x y
       commit_on x y going =
           record {
-            instance = commits.stepped.kept;
-            to = ap (λ place. place.to) commits.place;
+            form_is = same_form store next p d commits;
             on_book =
                 λ rs stands.
                 record {
                   now = rs ++ p.accepted ∷ [];
                   stands = (on_book rs stands).stands;
                   goes =
-                      subst (λ (t : Session). SessionGoes program_readers (region_under store) (start rs) t x y) (leads rs stands)
-                      (commit_goes program_readers store (start rs) p.accepted x y refl (stands_there rs stands) (one_made rs stands) going.heard going.world);
+                      subst (λ (seat : Seat). SessionGoes program_readers (form_under store) (seat_under store) seat (start rs) (session_at now (rs ++ p.accepted ∷ [])) x y) seat_is
+                      (subst (λ (t : Session). SessionGoes program_readers (form_under store) (seat_under store) (seat_under (store_for store p.accepted)) (start rs) t x y) (leads rs stands)
+                      (commit_goes program_readers store (start rs) p.accepted x y refl (stands_there rs stands) (one_made rs stands) going.heard going.world));
                 };
           }
 

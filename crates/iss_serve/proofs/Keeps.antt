@@ -24,12 +24,13 @@ use Rattle.iss_link.specs.declared.gone.Gone as link
 use Rattle.iss_store.specs.declared.fault.PlanFault.TheVariants as plan_fault
 use Rattle.iss_store.specs.declared.fault.StoreFault.{StoreFault}
 use Rattle.iss_store.specs.declared.fault.StoreFault.TheVariants as store_fault
-use Rattle.iss_store.specs.Values.{StoreNow, Plan, DurableNow, room_of}
+use Rattle.iss_opening.specs.Values.{StoreNow, room_of}
+use Rattle.iss_store.specs.Values.{Plan, DurableNow}
 use Rattle.iss_store.specs.Planning.{Plans}
-use Rattle.iss_store.specs.Standing.{StandsFor}
+use Rattle.iss_opening.specs.Standing.{StandsFor}
 use Rattle.iss_store.specs.Committing.{Commits, CommitsOnBook, Keeps, KeepsPart, WhereItLasts}
 use Rattle.iss_store.specs.Serving.{tasks_of_record, all_gone, SendsAll, SendsPart}
-use Rattle.iss_store.proofs.Counts.{step_count}
+use Rattle.iss_opening.proofs.Counts.{step_count}
 use Rattle.iss_serve.specs.Causes.{fault_of_store, IsOfDisk}
 use Rattle.iss_serve.specs.Held.{HeldNow, Stage, to_judge, sending, noted, records_left}
 use Rattle.iss_serve.specs.Judged.{judged_again, waiting_for, IsPlannedFor}
@@ -55,7 +56,7 @@ module _ (store : StoreNow) (h : HeldNow) (q : Queued) (rest : List Queued) (p :
       told_map (Quietly (KeepsPart store p.accepted)) (ServesSome failed (to_judge store h (q ∷ rest))) (outer_of v k) (outer_of w l)
       (commit_some store h q rest p planned failed fails) (told_quietly (KeepsPart store p.accepted) v w k l good quiet)
 
-  module _ (next : StoreNow) (d : DurableNow) (commits : Commits store p next d) (on_book : (rs : List Record) → StandsFor store rs → CommitsOnBook next rs p d)
+  module _ (next : StoreNow) (d : DurableNow) (commits : Commits store p next d) (on_book : (rs : List Record) → StandsFor store rs → CommitsOnBook store next rs p d)
       (going : Told (Keeps store p.accepted) v w) where
     abbrev after : Stage
     after = sending next (waiting_for q p.is_clock h) (judged_again p.is_clock q rest) (tasks_of_record next d (waiting_for q p.is_clock h).served)

@@ -10,7 +10,7 @@ use Rattle.iss_session.specs.Hearings.{links_of}
 use Rattle.iss_link.specs.declared.gone.Gone as link
 use Rattle.iss_link.specs.Values.{gone_as}
 use Rattle.iss_model.specs.Forms.{is_stamp}
-use Rattle.iss_store.specs.Values.{StoreNow}
+use Rattle.iss_opening.specs.Values.{StoreNow}
 use Rattle.iss_store.specs.Serving.{all_gone}
 use Rattle.iss_serve.specs.declared.held.Held.{Held}
 use Rattle.iss_serve.specs.Held.{HeldNow, IsHeld, IsStillHeld, IsOf, noted, call_unreached, records_left}
@@ -19,7 +19,7 @@ use Rattle.iss_serve.specs.Judged.{Judges}
 -- ---- judging
 
 pub judges_self : (s : StoreNow) (h : Held) → IsHeld h → IsOf s h → Judges s s h h
-judges_self s h held own = record { held = held; instance = own; turns = refl; to = refl; moves = inr (refl, refl) }
+judges_self s h held own = record { held = held; instance = own; turns = refl; size = refl; moves = inr (refl, refl) }
 
 pub judges_then : (s t u : StoreNow) (f g h : Held) → Judges s t f g → Judges t u g h → Judges s u f h
 judges_then s t u f g h p q =
@@ -27,7 +27,7 @@ judges_then s t u f g h p q =
       held = q.held;
       instance = q.instance;
       turns = q.turns ∙ p.turns;
-      to = q.to ∙ p.to;
+      size = q.size ∙ p.size;
       moves = moves_then p.moves q.moves;
     }
   where

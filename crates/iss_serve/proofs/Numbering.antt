@@ -19,7 +19,7 @@ use Rattle.iss_link.specs.declared.gone.Gone as link
 use Rattle.iss_link.specs.declared.gone.Gone.TheVariants.{Asked, Noted, Unreached}
 use Rattle.iss_link.specs.Hearing.{Answers}
 use Rattle.iss_link.specs.Values.{LinksNow, gone_as}
-use Rattle.iss_store.specs.Numbers.{is_from_one}
+use Rattle.iss_opening.specs.Numbers.{is_from_one}
 use Rattle.iss_store.specs.Serving.{has_number}
 use Rattle.iss_serve.specs.Held.{CallsNumbered, LinksNumbered, is_about_number, is_heard_in_form}
 

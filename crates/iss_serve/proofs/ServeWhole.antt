@@ -1,5 +1,5 @@
 -- A run that serves, from the device's side: what was heard and done, what a stop leaves, and what the device stands for.
-use Rattle.std.proofs.Common.{◌≡◌, ℕ, ◌+◌, ◌≤◌, inl, inr, Bool, true, false, cond, List, [], ◌∷◌, ◌++◌, length, map, refl, sym, ap, subst, ◌∙◌, append-nil, append_assoc, arith}
+use Rattle.std.proofs.Common.{◌≡◌, ℕ, ◌+◌, ◌≤◌, inl, inr, Option, Some, Bool, true, false, cond, List, [], ◌∷◌, ◌++◌, length, map, refl, sym, ap, subst, ◌∙◌, append-nil, append_assoc, arith}
 use Rattle.iss_edge.specs.declared.outside.Channel.{Channel}
 use Rattle.iss_edge.specs.declared.outside.Action.{Action}
 use Rattle.iss_edge.specs.declared.outside.Action.TheVariants.{Write, Sync, Emit, Dial, Close}
@@ -10,7 +10,10 @@ use Rattle.iss_edge.specs.Stretches.{Step, actions_of, is_still, with_levels}
 use Rattle.iss_edge.proofs.Tolds.{sent_on-append}
 use Rattle.iss_edge.proofs.StretchLemmas.{actions_of-append, actions_of-leveled}
 use Rattle.std.proofs.lemmas.List.{append_cancel_left}
+use Rattle.iss_halves.specs.Forms.{Form, Seat}
 use Rattle.iss_model.specs.declared.input.Record.{Record}
+use Rattle.iss_model.specs.declared.limits.TheConstants.{MOST_RECORDS}
+use Rattle.iss_model.specs.run.Rooms.{Room}
 use Rattle.iss_model.specs.rules.Histories.{History, history_of}
 use Rattle.iss_model.specs.run.Runs.{Run}
 use Rattle.iss_agreement.proofs.Records.{records_history}
@@ -26,16 +29,19 @@ use Rattle.iss_session.proofs.Closings.{run_closed, run_client_closed}
 use Rattle.iss_session.proofs.Waits.{waits_within}
 use Rattle.iss_session_examples.specs.Program.{program_readers}
 use Rattle.iss_session_examples.proofs.ClientLines.{program_reads_events}
-use Rattle.iss_store.specs.Values.{StoreNow}
-use Rattle.iss_store.specs.Standing.{region_under, AreHistory, StandsFor, DeviceStandsFor}
-use Rattle.iss_store.specs.Goings.{channel_steps, StepsGo, StepsGoPart}
-use Rattle.iss_store.proofs.Goings as joins
-use Rattle.iss_store.specs.Opening.{is_on_device, AreOnDevice, OpensGood, ReadsAlone, OpenedAs}
+use Rattle.iss_opening.specs.Values.{StoreNow, form_under, seat_under}
+use Rattle.iss_standing.specs.Standing.{AreHistory, DeviceStandsFor}
+use Rattle.iss_standing.specs.Rooms.{room_in, seat_of}
+use Rattle.iss_opening.specs.Standing.{StandsFor, IsOpenedOn}
+use Rattle.iss_standing.specs.Goings.{channel_steps, StepsGo, StepsGoPart}
+use Rattle.iss_standing.proofs.Goings as joins
+use Rattle.iss_standing.proofs.Few.{few_stand}
+use Rattle.iss_standing.proofs.Holds.{stands_in_room}
+use Rattle.iss_opening.specs.Opening.{is_on_device, AreOnDevice, OpensGood, ReadsAlone, OpenedAs}
 use Rattle.iss_device.specs.Runs.{run_at}
 use Rattle.iss_device.specs.Moments.{EachMoment, EachMomentUnsynced, EachStopStands, EndsAtRest}
-use Rattle.iss_device.specs.Opened.{IsOpenedOn}
 use Rattle.iss_device.proofs.Devices.{stands_opened, run_opened, rests_stands}
-use Rattle.iss_store.proofs.NextRecords.{first_self}
+use Rattle.iss_standing.proofs.Bodies.{first_self}
 use Rattle.iss_device.proofs.Firmly.{stops_stand}
 use Rattle.iss_device.proofs.Moments.{opening_on_device, trace_opened, not_opened_moments, not_opened_unsynced, opened_moments, opened_unsynced, rests_now, ends_at_rest}
 use Rattle.iss_serve.specs.Goings.{records_in, SessionGoesPart}
@@ -123,51 +129,62 @@ records_are run turns rs happenings is =
 done_at : (status : ℕ) (s : Session) (happenings : List Happening) (done : List Step) → (status ≡ 0 → ⊥) → IsDoneInPart (steps_said s happenings) done → DoneAt status s happenings done
 done_at status s happenings done not_done part = record { whole = λ e. absurd (not_done e); part = λ other. part }
 
-module _ (turns instance : ℕ) (rs : List Record) (s : StoreNow) (a b d : Outer) (opening : OpenedAs s a.world b.world) (quiet : b.heard ≡ a.heard) (stands : DeviceStandsFor instance rs a.world.device) where
+module _ (turns : ℕ) (form : Form) (seat : Seat) (rs : List Record) (s : StoreNow) (a b d : Outer) (opening : OpenedAs s a.world b.world) (quiet : b.heard ≡ a.heard) (stands : DeviceStandsFor form seat rs a.world.device) where
   abbrev start : Session
   start = session_of (run_at s rs) turns
 
   abbrev first_steps : List Step
   first_steps = with_levels 0 opening.good.added
 
-  opened : IsOpenedOn instance (length a.world.device) rs s
-  opened = stands_opened instance rs s a.world b.world opening stands
+  opened : IsOpenedOn form seat rs s
+  opened = stands_opened form seat rs s a.world b.world opening stands
 
   pub stands_there : StandsFor s rs
   stands_there = opened.stands
 
   -- what is said of the session on the store holds of the one on the device
-  on_device : (P : Session → Type 0) → P start → P (session_on_device turns instance rs a.world.device)
-  on_device P p = subst (λ (k : Run). P (session_of k turns)) (run_opened instance rs s a.world.device opened) p
+  on_device : (P : Session → Type 0) → P start → P (session_on_device turns form seat rs)
+  on_device P p = subst (λ (k : Run). P (session_of k turns)) (run_opened form seat rs s a.world.device opening.opens opened) p
 
   -- the records that a session made are those that stood and its own
   made : (happenings : List Happening) → records_in (session_then start happenings) ≡ records_then rs start happenings
   made happenings = records_are (run_at s rs) turns rs happenings refl
 
   -- what was done from the session's start was done from the records that stood
-  part_there : (happenings : List Happening) (said : List Step) → StepsGoPart (region_under s) (records_in start) (records_in (session_then start happenings)) said b.world d.world
-      → StepsGoPart (region_under s) rs (records_then rs start happenings) said b.world d.world
+  part_there : (happenings : List Happening) (said : List Step) → StepsGoPart (form_under s) (seat_under s) (records_in start) (records_in (session_then start happenings)) said b.world d.world
+      → StepsGoPart (form_under s) (seat_under s) rs (records_then rs start happenings) said b.world d.world
   part_there happenings said part =
-      subst (λ (l : List Record). StepsGoPart (region_under s) rs l said b.world d.world) (made happenings)
-      (subst (λ (l : List Record). StepsGoPart (region_under s) l (records_in (session_then start happenings)) said b.world d.world) (records_history rs) part)
+      subst (λ (l : List Record). StepsGoPart (form_under s) (seat_under s) rs l said b.world d.world) (made happenings)
+      (subst (λ (l : List Record). StepsGoPart (form_under s) (seat_under s) l (records_in (session_then start happenings)) said b.world d.world) (records_history rs) part)
 
-  goes_there : (happenings : List Happening) (last : Session) (said : List Step) → session_then start happenings ≡ last → StepsGo (region_under s) (records_in start) (records_in last) said b.world d.world
-      → StepsGo (region_under s) rs (records_then rs start happenings) said b.world d.world
-  goes_there happenings last said ends goes =
-      subst (λ (l : List Record). StepsGo (region_under s) rs l said b.world d.world) (ap records_in (sym ends) ∙ made happenings)
-      (subst (λ (l : List Record). StepsGo (region_under s) l (records_in last) said b.world d.world) (records_history rs) goes)
+  goes_there : (to : Seat) (happenings : List Happening) (last : Session) (said : List Step) → session_then start happenings ≡ last
+      → StepsGo (form_under s) (seat_under s) to (records_in start) (records_in last) said b.world d.world
+      → StepsGo (form_under s) (seat_under s) to rs (records_then rs start happenings) said b.world d.world
+  goes_there to happenings last said ends goes =
+      subst (λ (l : List Record). StepsGo (form_under s) (seat_under s) to rs l said b.world d.world) (ap records_in (sym ends) ∙ made happenings)
+      (subst (λ (l : List Record). StepsGo (form_under s) (seat_under s) to l (records_in last) said b.world d.world) (records_history rs) goes)
 
   -- where it ends, by what was done since the start
-  whole_ends : (all : List Record) (said : List Step) (part : StepsGoPart (region_under s) rs all said b.world d.world) → StepsGo (region_under s) rs all said b.world d.world
-      → EndsAtRest instance rs all (actions_of (first_steps ++ part.steps)) a.world d.world
-  whole_ends all said part goes =
+  whole_ends : (to : Seat) (all : List Record) (said : List Step) (part : StepsGoPart (form_under s) (seat_under s) rs all said b.world d.world)
+      → StepsGo (form_under s) (seat_under s) to rs all said b.world d.world
+      → EndsAtRest form rs all (actions_of (first_steps ++ part.steps)) a.world d.world
+  whole_ends to all said part goes =
       let same : actions_of part.steps ≡ actions_of goes.steps =
       append_cancel_left b.world.trace (actions_of part.steps) (actions_of goes.steps) (sym part.grew ∙ goes.grew) in
-      subst (λ (l : List Action). EndsAtRest instance rs all l a.world d.world)
+      subst (λ (l : List Action). EndsAtRest form rs all l a.world d.world)
       (sym (actions_of-append first_steps part.steps
       ∙ ap (λ (l : List Action). l ++ actions_of part.steps) (actions_of-leveled 0 opening.good.added)
       ∙ ap (λ (l : List Action). opening.good.added ++ l) same))
-      (ends_at_rest instance rs s a.world b.world opening stands all said d.world goes)
+      (ends_at_rest form seat rs s a.world b.world opening stands to all said d.world goes)
+
+  -- the room in which its session ends
+  last_room : (ends : EndsWith s turns rs b d) → (session_then start ends.goes.happenings).run.room ≡ Some (room_in form ends.seat)
+  last_room ends =
+      ap (λ (m : Session). m.run.room) ends.goes.ends ∙ ends.room_is
+      ∙ ap (λ (f : Form). Some (room_in f ends.seat)) opened.form_is
+
+  few_made : (all : List Record) → (length rs ≤ MOST_RECORDS → length all ≤ MOST_RECORDS) → length all ≤ MOST_RECORDS
+  few_made all few = few (few_stand form seat rs a.world.device stands)
 
   in_turns : (happenings : List Happening) → Fits program_readers start happenings → waits_in happenings ≤ turns
   in_turns happenings fits =
@@ -185,8 +202,8 @@ module _ (turns instance : ℕ) (rs : List Record) (s : StoreNow) (a b d : Outer
   silent : (later : List Step) → channel_steps (first_steps ++ later) ≡ channel_steps later
   silent later = opening_silent opening.good.added later opening.good.on_device
 
-  pub serve_part : (status : ℕ) → (status ≡ 0 → ⊥) → (status ≡ 4 → ⊥) → (failed : Type 0) → (failed → status ≡ 6) → SessionGoesPart failed program_readers (region_under s) start b d
-      → ServeOn turns status instance rs (session_on_device turns instance rs a.world.device) a d
+  pub serve_part : (status : ℕ) → (status ≡ 0 → ⊥) → (status ≡ 4 → ⊥) → (failed : Type 0) → (failed → status ≡ 6) → SessionGoesPart failed program_readers (form_under s) (seat_under s) start b d
+      → ServeOn turns status form rs (session_on_device turns form seat rs) a d
   serve_part status not_done not_device failed of_disk p =
       let all = records_then rs start p.happenings in
       let part = part_there p.happenings p.said p.part in
@@ -206,7 +223,7 @@ module _ (turns instance : ℕ) (rs : List Record) (s : StoreNow) (a b d : Outer
             ap actions_of cut ∙ actions_of-append (channel_steps steps) p.undone
             ∙ ap (λ (l : List Action). l ++ actions_of p.undone) (sym (channel_actions_are steps));
       } in
-      on_device (λ (m : Session). ServeOn turns status instance rs m a d)
+      on_device (λ (m : Session). ServeOn turns status form rs m a d)
       (record {
         happenings = p.happenings;
         heard = heard;
@@ -221,26 +238,26 @@ module _ (turns instance : ℕ) (rs : List Record) (s : StoreNow) (a b d : Outer
             let sent = serves_part_sent program_readers start a d ch serves in
             record { unsent = sent.unsent; sent = sent.sent };
         history = part.history stands.history;
-        moments = opened_moments instance rs s a.world b.world opening stands all p.said d.world part;
-        unsynced = opened_unsynced instance rs s a.world b.world opening stands all p.said d.world part;
+        moments = opened_moments form seat rs s a.world b.world opening stands all p.said d.world part;
+        unsynced = opened_unsynced form seat rs s a.world b.world opening stands all p.said d.world part;
         stops =
-            stops_stand instance rs all a.world.device part.more (part.history stands.history) first_steps part.steps
-            (opened_moments instance rs s a.world b.world opening stands all p.said d.world part);
+            stops_stand form rs all a.world.device part.more (part.history stands.history) (λ halved. few_made all part.few) first_steps part.steps
+            (opened_moments form seat rs s a.world b.world opening stands all p.said d.world part);
         whole = λ e. absurd (not_done e);
         ended = λ other. elim p.whole [
-          | inl goes ↦ inr (whole_ends all p.said part (goes_there p.happenings (session_then start p.happenings) p.said refl goes))
+          | inl goes ↦ inr (whole_ends goes.0 all p.said part (goes_there goes.0 p.happenings (session_then start p.happenings) p.said refl goes.1))
           | inr fails ↦ absurd (other (of_disk fails))
         ];
         other_device = not_device;
       })
 
-  pub serve_whole : EndsWith s turns rs b d → ServeOn turns 0 instance rs (session_on_device turns instance rs a.world.device) a d
+  pub serve_whole : EndsWith s turns rs b d → ServeOn turns 0 form rs (session_on_device turns form seat rs) a d
   serve_whole ends =
       let p = ends.goes in
       let all = records_then rs start p.happenings in
       let said = steps_said start p.happenings ++ last_steps ends.last in
-      let goes : StepsGo (region_under s) rs all said b.world d.world = goes_there p.happenings ends.last said p.ends p.goes in
-      let part : StepsGoPart (region_under s) rs all said b.world d.world = joins.goes_part (region_under s) rs all said b.world d.world goes in
+      let goes : StepsGo (form_under s) (seat_under s) ends.seat rs all said b.world d.world = goes_there ends.seat p.happenings ends.last said p.ends p.goes in
+      let part : StepsGoPart (form_under s) (seat_under s) rs all said b.world d.world = joins.goes_part (form_under s) (seat_under s) ends.seat rs all said b.world d.world goes in
       let part_steps : List Step = part.steps in
       let steps = first_steps ++ part_steps in
       let heard : d.heard ≡ a.heard ++ answers_of p.happenings = p.heard ∙ ap (λ (h : List Answered). h ++ answers_of p.happenings) quiet in
@@ -262,7 +279,7 @@ module _ (turns instance : ℕ) (rs : List Record) (s : StoreNow) (a b d : Outer
       λ ch.
       serves_all_sent program_readers (run_at s rs) turns ends.last a d ch serves
       ∙ ap (λ (l : List ℕ). sent_on ch a.world.trace ++ l) (sent_to_last ch (steps_said start p.happenings) ends.last) in
-      on_device (λ (m : Session). ServeOn turns 0 instance rs m a d)
+      on_device (λ (m : Session). ServeOn turns 0 form rs m a d)
       (record {
         happenings = p.happenings;
         heard = heard;
@@ -279,11 +296,11 @@ module _ (turns instance : ℕ) (rs : List Record) (s : StoreNow) (a b d : Outer
             };
         sent = λ ch. record { unsent = []; sent = sym (sent ch) ∙ sym (append-nil (sent_on ch d.world.trace)) };
         history = part.history stands.history;
-        moments = opened_moments instance rs s a.world b.world opening stands all said d.world part;
-        unsynced = opened_unsynced instance rs s a.world b.world opening stands all said d.world part;
+        moments = opened_moments form seat rs s a.world b.world opening stands all said d.world part;
+        unsynced = opened_unsynced form seat rs s a.world b.world opening stands all said d.world part;
         stops =
-            stops_stand instance rs all a.world.device part.more (part.history stands.history) first_steps part_steps
-            (opened_moments instance rs s a.world b.world opening stands all said d.world part);
+            stops_stand form rs all a.world.device part.more (part.history stands.history) (λ halved. few_made all part.few) first_steps part_steps
+            (opened_moments form seat rs s a.world b.world opening stands all said d.world part);
         whole = λ e.
             record {
               came = p.came;
@@ -291,20 +308,22 @@ module _ (turns instance : ℕ) (rs : List Record) (s : StoreNow) (a b d : Outer
               sent = sent;
               closed = closed_at_end (run_at s rs) turns p.happenings p.fits over;
               stands =
-                  rests_stands instance (length a.world.device) all d.world.device stands.header.size stands.header.small (part.history stands.history)
-                  (rests_now instance rs s a.world b.world opening stands all said d.world goes);
-              ends = whole_ends all said part goes;
+                  subst (λ (room : Option Room). DeviceStandsFor form (seat_of room) all d.world.device) (sym (last_room ends))
+                  (stands_in_room form ends.seat all d.world.device
+                  (rests_stands form ends.seat all d.world.device stands.form_is (part.history stands.history) (λ halved. few_made all part.few)
+                  (rests_now form seat rs s a.world b.world opening stands ends.seat all said d.world goes)));
+              ends = whole_ends ends.seat all said part goes;
             };
-        ended = λ other. inr (whole_ends all said part goes);
+        ended = λ other. inr (whole_ends ends.seat all said part goes);
         other_device = λ e. cc;
       })
 
 -- ---- a run that ended with its opening
 
-pub not_opened : (turns status instance : ℕ) (rs : List Record) (a b : Outer) → (status ≡ 0 → ⊥) → (status ≡ 4 → ⊥) → OpensGood a.world b.world → ((status ≡ 6 → ⊥) → ReadsAlone a.world b.world) → b.heard ≡ a.heard → DeviceStandsFor instance rs a.world.device
-    → ServeOn turns status instance rs (session_on_device turns instance rs a.world.device) a b
-not_opened turns status instance rs a b not_done not_device good reads quiet stands =
-    let start = session_on_device turns instance rs a.world.device in
+pub not_opened : (turns status : ℕ) (form : Form) (seat : Seat) (rs : List Record) (a b : Outer) → (status ≡ 0 → ⊥) → (status ≡ 4 → ⊥) → OpensGood a.world b.world → ((status ≡ 6 → ⊥) → ReadsAlone a.world b.world) → b.heard ≡ a.heard → DeviceStandsFor form seat rs a.world.device
+    → ServeOn turns status form rs (session_on_device turns form seat rs) a b
+not_opened turns status form seat rs a b not_done not_device good reads quiet stands =
+    let start = session_on_device turns form seat rs in
     let steps = with_levels 0 good.added ++ [] in
     let none : channel_steps steps ≡ [] = opening_silent good.added [] good.on_device in
     let grew : b.world.trace ≡ a.world.trace ++ actions_of steps = trace_opened a.world b.world good in
@@ -333,14 +352,14 @@ not_opened turns status instance rs a b not_done not_device good reads quiet sta
           record { unsent = sent.unsent; sent = sent.sent };
       history = subst AreHistory (sym (append-nil rs)) stands.history;
       moments =
-          subst (λ (l : List Record). EachMoment instance rs l (with_levels 0 good.added) [] a.world.device) (sym (append-nil rs))
-          (not_opened_moments instance rs a.world b.world good stands);
+          subst (λ (l : List Record). EachMoment form rs l (with_levels 0 good.added) [] a.world.device) (sym (append-nil rs))
+          (not_opened_moments form seat rs a.world b.world good stands);
       unsynced =
-          subst (λ (l : List Record). EachMomentUnsynced instance rs l (with_levels 0 good.added) [] a.world.device) (sym (append-nil rs))
-          (not_opened_unsynced instance rs a.world b.world good stands);
+          subst (λ (l : List Record). EachMomentUnsynced form rs l (with_levels 0 good.added) [] a.world.device) (sym (append-nil rs))
+          (not_opened_unsynced form seat rs a.world b.world good stands);
       stops =
-          subst (λ (l : List Record). EachStopStands instance rs l (with_levels 0 good.added ++ []) a.world.device) (sym (append-nil rs))
-          (stops_stand instance rs rs a.world.device (first_self rs) stands.history (with_levels 0 good.added) [] (not_opened_moments instance rs a.world b.world good stands));
+          subst (λ (l : List Record). EachStopStands form rs l (with_levels 0 good.added ++ []) a.world.device) (sym (append-nil rs))
+          (stops_stand form rs rs a.world.device (first_self rs) stands.history stands.few (with_levels 0 good.added) [] (not_opened_moments form seat rs a.world b.world good stands));
       whole = λ e. absurd (not_done e);
       ended = λ other. inl (reads other);
       other_device = not_device;

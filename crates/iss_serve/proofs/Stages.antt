@@ -5,7 +5,7 @@ use Rattle.iss_edge.specs.Outer.{Outer, Adds}
 use Rattle.iss_edge.specs.Stretches.{actions_of}
 use Rattle.iss_edge.specs.World.{Told}
 use Rattle.iss_edge.proofs.Tolds.{told_map, told_then, told_self}
-use Rattle.iss_journal.specs.Region.{Region}
+use Rattle.iss_halves.specs.Forms.{Form, Seat}
 use Rattle.iss_model.specs.declared.call.CallId.{CallId}
 use Rattle.iss_model.specs.declared.input.Record.{Record}
 use Rattle.iss_agreement.proofs.Records.{records_history}
@@ -18,11 +18,11 @@ use Rattle.iss_session.proofs.Runs.{run_item}
 use Rattle.iss_session.specs.Sendings.{Sends}
 use Rattle.iss_session.proofs.DesksInSessions.{with_desk}
 use Rattle.iss_session_examples.specs.Program.{program_readers}
-use Rattle.iss_store.specs.Values.{StoreNow}
-use Rattle.iss_store.specs.Standing.{region_of, region_under, StandsFor}
-use Rattle.iss_store.specs.Goings.{StepsGo, StepsGoPart}
-use Rattle.iss_store.proofs.Goings as joins
-use Rattle.iss_store.proofs.Histories.{count_on_book}
+use Rattle.iss_opening.specs.Values.{StoreNow, form_under, seat_under}
+use Rattle.iss_opening.specs.Standing.{StandsFor}
+use Rattle.iss_standing.specs.Goings.{StepsGo, StepsGoPart}
+use Rattle.iss_standing.proofs.Goings as joins
+use Rattle.iss_store.proofs.Books.{count_on_book}
 use Rattle.iss_serve.specs.Goings.{has_come, records_in, SessionGoes, SessionGoesPart}
 use Rattle.iss_serve.specs.Held.{HeldNow, Stage, idle, to_judge, answers_unreached, session_at}
 use Rattle.iss_serve.specs.Runs.{ServesOn, ServesSome}
@@ -32,24 +32,21 @@ use Rattle.iss_serve.proofs.Going.{goes_self, goes_then, goes_then_part, goes_pa
 pub count_at : (x : Stage) (rs : List Record) → StandsFor x.store rs → count (session_at x rs) ≡ x.store.core.state.count
 count_at x rs stands = ap (λ (l : List Record). length l) (records_history rs) ∙ sym (count_on_book x.store.core rs stands.core)
 
-same_region : (x y : Stage) → y.store.core.instance ≡ x.store.core.instance → y.store.place.to ≡ x.store.place.to → region_under y.store ≡ region_under x.store
-same_region x y instance to = λ i. region_of (instance i) (to i)
-
 -- ---- nothing, and one after the other
 
 pub on_self : (x : Stage) (a : Outer) → ServesOn x x a a
 on_self x a =
     record {
-      instance = refl;
-      to = refl;
-      on_book = λ rs stands. record { now = rs; stands = stands; goes = goes_self program_readers (region_under x.store) (session_at x rs) a };
+      form_is = refl;
+      on_book =
+          λ rs stands.
+          record { now = rs; stands = stands; goes = goes_self program_readers (form_under x.store) (seat_under x.store) (session_at x rs) a };
     }
 
 pub on_then : (x y z : Stage) (a b c : Outer) → ServesOn x y a b → ServesOn y z b c → ServesOn x z a c
 on_then x y z a b c p q =
     record {
-      instance = q.instance ∙ p.instance;
-      to = q.to ∙ p.to;
+      form_is = q.form_is ∙ p.form_is;
       on_book =
           λ rs stands.
           let first = p.on_book rs stands in
@@ -58,8 +55,9 @@ on_then x y z a b c p q =
             now = second.now;
             stands = second.stands;
             goes =
-                goes_then program_readers (region_under x.store) (session_at x rs) (session_at y first.now) a b c first.goes (session_at z second.now)
-                (subst (λ (r : Region). SessionGoes program_readers r (session_at y first.now) (session_at z second.now) b c) (same_region x y p.instance p.to) second.goes);
+                goes_then program_readers (form_under x.store) (seat_under x.store) (seat_under y.store) (session_at x rs) (session_at y first.now) a b c first.goes
+                (seat_under z.store) (session_at z second.now)
+                (subst (λ (form : Form). SessionGoes program_readers form (seat_under y.store) (seat_under z.store) (session_at y first.now) (session_at z second.now) b c) p.form_is second.goes);
           };
     }
 
@@ -69,8 +67,8 @@ on_then_some failed x y a b c p q =
       on_book =
           λ rs stands.
           let first = p.on_book rs stands in
-          goes_then_part program_readers (region_under x.store) (session_at x rs) (session_at y first.now) a b c first.goes failed
-          (subst (λ (r : Region). SessionGoesPart failed program_readers r (session_at y first.now) b c) (same_region x y p.instance p.to) (q.on_book first.now first.stands));
+          goes_then_part program_readers (form_under x.store) (seat_under x.store) (seat_under y.store) (session_at x rs) (session_at y first.now) a b c first.goes failed
+          (subst (λ (form : Form). SessionGoesPart failed program_readers form (seat_under y.store) (session_at y first.now) b c) p.form_is (q.on_book first.now first.stands));
     }
 
 pub some_of_on : (failed : Type 0) (x y : Stage) (a b : Outer) → ServesOn x y a b → ServesSome failed x a b
@@ -79,23 +77,28 @@ some_of_on failed x y a b p =
       on_book =
           λ rs stands.
           let first = p.on_book rs stands in
-          goes_part failed program_readers (region_under x.store) (session_at x rs) (session_at y first.now) a b first.goes;
+          goes_part failed program_readers (form_under x.store) (seat_under x.store) (seat_under y.store) (session_at x rs) (session_at y first.now) a b first.goes;
     }
+
+-- a session that stayed on one store ends at the seat of that store
+to_seat : (s s' : StoreNow) (t u : Session) (a b : Outer) → s' ≡ s → SessionGoes program_readers (form_under s) (seat_under s) (seat_under s) t u a b
+    → SessionGoes program_readers (form_under s) (seat_under s) (seat_under s') t u a b
+to_seat s s' t u a b same goes = subst (λ (seat : Seat). SessionGoes program_readers (form_under s) (seat_under s) seat t u a b) (ap seat_under (sym same)) goes
 
 -- two stages of one store that are the same session
 pub on_same : (x y : Stage) (a : Outer) → y.store ≡ x.store → ((rs : List Record) → session_at x rs ≡ session_at y rs) → ServesOn x y a a
 on_same x y a same is =
     record {
-      instance = ap (λ (s : StoreNow). s.core.instance) same;
-      to = ap (λ (s : StoreNow). s.place.to) same;
+      form_is = ap form_under same;
       on_book =
           λ rs stands.
           record {
             now = rs;
             stands = subst (λ (s : StoreNow). StandsFor s rs) (sym same) stands;
             goes =
-                subst (λ (t : Session). SessionGoes program_readers (region_under x.store) (session_at x rs) t a a) (is rs)
-                (goes_self program_readers (region_under x.store) (session_at x rs) a);
+                to_seat x.store y.store (session_at x rs) (session_at y rs) a a same
+                (subst (λ (t : Session). SessionGoes program_readers (form_under x.store) (seat_under x.store) (seat_under x.store) (session_at x rs) t a a) (is rs)
+                (goes_self program_readers (form_under x.store) (seat_under x.store) (session_at x rs) a));
           };
     }
 
@@ -160,8 +163,8 @@ told_some_as failed x x' o p e t = subst (λ (s : Stage). Told (ServesSome faile
 -- ---- each kind of part, on a store that stays as it is
 
 -- an answer that was called for, if a fault keeps what the session does then from being done
-heard_goes_part : (failed : Type 0) (read : Readers) (region : Region) (s : Session) (item : HeardItem) (a b : Outer) → IsNext s item → Adds [] (item.answer ∷ []) a b → SessionGoesPart failed read region s a b
-heard_goes_part failed read region s item a b next adds =
+heard_goes_part : (failed : Type 0) (read : Readers) (form : Form) (x : Seat) (s : Session) (item : HeardItem) (a b : Outer) → IsNext s item → Adds [] (item.answer ∷ []) a b → SessionGoesPart failed read form x s a b
+heard_goes_part failed read form x s item a b next adds =
     let t = session_after read s (hears item ∷ []) in
     let same : records_in t ≡ records_in s = ap (λ (run : Run). run.history.records) (run_item read s item s.desk.tasks) in
     record {
@@ -172,12 +175,15 @@ heard_goes_part failed read region s item a b next adds =
       undone = session_steps read s (hears item ∷ []);
       cut = refl;
       part =
-          subst (λ (l : List Record). StepsGoPart region (records_in s) l [] a.world b.world) (sym same)
-          (joins.goes_part region (records_in s) (records_in s) [] a.world b.world
-          (joins.still_goes region (records_in s) [] a.world b.world tt tt adds.device adds.trace));
+          subst (λ (l : List Record). StepsGoPart form x (records_in s) l [] a.world b.world) (sym same)
+          (joins.goes_part form x x (records_in s) (records_in s) [] a.world b.world
+          (joins.still_goes form x (records_in s) [] a.world b.world tt tt adds.device adds.trace));
       whole =
-          inl (subst (λ (l : List Record). StepsGo region (records_in s) l [] a.world b.world) (sym same)
-          (joins.still_goes region (records_in s) [] a.world b.world tt tt adds.device adds.trace));
+          inl (
+            x,
+            subst (λ (l : List Record). StepsGo form x x (records_in s) l [] a.world b.world) (sym same)
+                (joins.still_goes form x (records_in s) [] a.world b.world tt tt adds.device adds.trace),
+          );
     }
 
 -- the session goes on to another stage of the same store
@@ -192,24 +198,24 @@ pub heard_on : (store : StoreNow) (x y : Stage) (item : HeardItem) (actions : Li
     → Adds actions (item.answer ∷ []) a b → ServesOn x y a b
 heard_on store x y item actions a b xs ys next came leads does adds =
     record {
-      instance = ap (λ (s : StoreNow). s.core.instance) (ys ∙ sym xs);
-      to = ap (λ (s : StoreNow). s.place.to) (ys ∙ sym xs);
+      form_is = ap form_under (ys ∙ sym xs);
       on_book =
           λ rs stands.
           record {
             now = rs;
             stands = subst (λ (s : StoreNow). StandsFor s rs) (xs ∙ sym ys) stands;
             goes =
-                subst (λ (t : Session). SessionGoes program_readers (region_under x.store) (session_at x rs) t a b) (leads rs)
-                (heard_goes program_readers (region_under x.store) (session_at x rs) item a b (next rs) came
-                (subst (λ (l : List Action). Adds l (item.answer ∷ []) a b) (sym (does rs)) adds));
+                to_seat x.store y.store (session_at x rs) (session_at y rs) a b (ys ∙ sym xs)
+                (subst (λ (t : Session). SessionGoes program_readers (form_under x.store) (seat_under x.store) (seat_under x.store) (session_at x rs) t a b) (leads rs)
+                (heard_goes program_readers (form_under x.store) (seat_under x.store) (session_at x rs) item a b (next rs) came
+                (subst (λ (l : List Action). Adds l (item.answer ∷ []) a b) (sym (does rs)) adds)));
           };
     }
 
 -- an answer that was called for, if a fault keeps the session's steps from being done
 pub heard_some : (failed : Type 0) (x : Stage) (item : HeardItem) (a b : Outer) → ((rs : List Record) → IsNext (session_at x rs) item) → Adds [] (item.answer ∷ []) a b → ServesSome failed x a b
 heard_some failed x item a b next adds =
-    record { on_book = λ rs stands. heard_goes_part failed program_readers (region_under x.store) (session_at x rs) item a b (next rs) adds }
+    record { on_book = λ rs stands. heard_goes_part failed program_readers (form_under x.store) (seat_under x.store) (session_at x rs) item a b (next rs) adds }
 
 -- what a desk did for its texts
 pub sends_on : (store : StoreNow) (x y : Stage) (e : Desk) (gone : List TextFate) (a b : Outer) → x.store ≡ store → y.store ≡ store
@@ -217,17 +223,17 @@ pub sends_on : (store : StoreNow) (x y : Stage) (e : Desk) (gone : List TextFate
     → Sends x.store.core.state.count (desk_with x.tasks x.held.served) e gone a b → ServesOn x y a b
 sends_on store x y e gone a b xs ys leads sends =
     record {
-      instance = ap (λ (s : StoreNow). s.core.instance) (ys ∙ sym xs);
-      to = ap (λ (s : StoreNow). s.place.to) (ys ∙ sym xs);
+      form_is = ap form_under (ys ∙ sym xs);
       on_book =
           λ rs stands.
           record {
             now = rs;
             stands = subst (λ (s : StoreNow). StandsFor s rs) (xs ∙ sym ys) stands;
             goes =
-                subst (λ (t : Session). SessionGoes program_readers (region_under x.store) (session_at x rs) t a b) (leads rs)
-                (sends_goes program_readers (region_under x.store) (session_at x rs) e gone a b
-                (subst (λ (n : ℕ). Sends n (desk_with x.tasks x.held.served) e gone a b) (sym (count_at x rs stands)) sends));
+                to_seat x.store y.store (session_at x rs) (session_at y rs) a b (ys ∙ sym xs)
+                (subst (λ (t : Session). SessionGoes program_readers (form_under x.store) (seat_under x.store) (seat_under x.store) (session_at x rs) t a b) (leads rs)
+                (sends_goes program_readers (form_under x.store) (seat_under x.store) (session_at x rs) e gone a b
+                (subst (λ (n : ℕ). Sends n (desk_with x.tasks x.held.served) e gone a b) (sym (count_at x rs stands)) sends)));
           };
     }
 
@@ -237,7 +243,7 @@ sends_some failed x e gone a b sends =
     record {
       on_book =
           λ rs stands.
-          goes_part failed program_readers (region_under x.store) (session_at x rs) (with_desk (session_at x rs) e gone) a b
-          (sends_goes program_readers (region_under x.store) (session_at x rs) e gone a b
+          goes_part failed program_readers (form_under x.store) (seat_under x.store) (seat_under x.store) (session_at x rs) (with_desk (session_at x rs) e gone) a b
+          (sends_goes program_readers (form_under x.store) (seat_under x.store) (session_at x rs) e gone a b
           (subst (λ (n : ℕ). Sends n (desk_with x.tasks x.held.served) e gone a b) (sym (count_at x rs stands)) sends));
     }

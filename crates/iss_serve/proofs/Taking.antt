@@ -20,7 +20,7 @@ use Rattle.iss_session.specs.Happenings.{MayAnswerEarly, MayEndEarly, MayBeEarly
 use Rattle.iss_session.specs.Sendings.{Sends}
 use Rattle.iss_session_examples.specs.Program.{program_readers}
 use Rattle.iss_link.specs.Hearing.{Answers, closing}
-use Rattle.iss_store.specs.Values.{StoreNow}
+use Rattle.iss_opening.specs.Values.{StoreNow}
 use Rattle.iss_serve.specs.declared.requests.Request.{Request}
 use Rattle.iss_serve.specs.declared.requests.Request.TheVariants.{More, Says, Bad}
 use Rattle.iss_serve.specs.Requests.{requested, ReadsOn}

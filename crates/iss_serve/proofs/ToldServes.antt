@@ -8,12 +8,12 @@ use Rattle.iss_edge.specs.Calls.{HearsNothing}
 use Rattle.iss_edge.specs.Outer.{outer_of}
 use Rattle.iss_edge.proofs.Tolds.{told_map, told_then, later_then, rose_later}
 use Rattle.iss_link.proofs.Worlds.{told_some}
-use Rattle.iss_store.specs.declared.fault.OpenFault.{OpenFault}
-use Rattle.iss_store.specs.declared.fault.OpenFault.TheVariants as open_fault
-use Rattle.iss_store.specs.Values.{StoreNow}
-use Rattle.iss_store.specs.Opening.{Opens, OpensGood, ReadsAlone, OnRefused, OpenCause, IsOfDiskOrMemory, OpenedAs}
-use Rattle.iss_store.proofs.GoodDevices.{good_device}
-use Rattle.iss_store.proofs.ToldReadings.{told_both}
+use Rattle.iss_opening.specs.declared.fault.OpenFault.{OpenFault}
+use Rattle.iss_opening.specs.declared.fault.OpenFault.TheVariants as open_fault
+use Rattle.iss_opening.specs.Values.{StoreNow}
+use Rattle.iss_opening.specs.Opening.{Opens, OpensGood, ReadsAlone, OnRefused, OpenCause, IsOfDiskOrMemory, OpenedAs}
+use Rattle.iss_opening.proofs.GoodDevices.{good_device}
+use Rattle.iss_opening.proofs.Telling.{told_both}
 use Rattle.iss_device.specs.Refusals.{RefusesExactly, opening_status}
 use Rattle.iss_device.proofs.Refusals.{told_refuses, opened_refuses}
 use Rattle.iss_serve.specs.declared.fault.ServeFault.{ServeFault}
@@ -54,6 +54,7 @@ opening_ends : (fault : OpenFault) → IsOfDiskOrMemory fault → ends_with (fau
 opening_ends open_fault.Disk is e = cc
 opening_ends open_fault.OutOfMemory is e = cc
 opening_ends open_fault.NotFormatted is e = absurd is
+opening_ends (open_fault.BadImage place) is e = absurd is
 opening_ends (open_fault.BadRecord gate) is e = absurd is
 opening_ends (open_fault.BadSpelling gate) is e = absurd is
 opening_ends (open_fault.BadHistory gate) is e = absurd is
@@ -71,6 +72,7 @@ told_unless : (fault : OpenFault) (x y : Option World) → Told OpensGood x y �
 told_unless open_fault.Disk x y good reads = told_map OpensGood (ReadsUnless open_fault.Disk) x y (λ a b g other. absurd (other refl)) good
 told_unless open_fault.OutOfMemory x y good reads = reads_at_all open_fault.OutOfMemory x y reads
 told_unless open_fault.NotFormatted x y good reads = reads_at_all open_fault.NotFormatted x y reads
+told_unless (open_fault.BadImage place) x y good reads = reads_at_all (open_fault.BadImage place) x y reads
 told_unless (open_fault.BadRecord gate) x y good reads = reads_at_all (open_fault.BadRecord gate) x y reads
 told_unless (open_fault.BadSpelling gate) x y good reads = reads_at_all (open_fault.BadSpelling gate) x y reads
 told_unless (open_fault.BadHistory gate) x y good reads = reads_at_all (open_fault.BadHistory gate) x y reads
@@ -82,9 +84,9 @@ module _ (turns : ℕ) (fault : OpenFault) (x y : Option World) (h k : Option (L
   pub told_unopened_serve : OnRefused {T = StoreNow} (Err fault) (Told ReadsAlone x y) → Told (ServeRun turns (ends_with (fault_of_opening fault))) (outer_of x h) (outer_of y k)
   told_unopened_serve reads =
       told_map (Quietly Unopened) (ServeRun turns (ends_with (fault_of_opening fault))) (outer_of x h) (outer_of y k)
-      (λ a b p instance rs stands.
-      not_opened turns (ends_with (fault_of_opening fault)) instance rs a b (not_done (fault_of_opening fault))
-      (opening_ends fault (good_device instance rs fault a.world b.world stands p.world.0.0)) p.world.0.1 p.world.1 p.heard stands)
+      (λ a b p form seat rs stands.
+      not_opened turns (ends_with (fault_of_opening fault)) form seat rs a b (not_done (fault_of_opening fault))
+      (opening_ends fault (good_device form seat rs fault a.world b.world stands p.world.0.0)) p.world.0.1 p.world.1 p.heard stands)
       (told_quietly Unopened x y h k
       (told_both (λ a b. Opens (Err fault) a b × OpensGood a b) (ReadsUnless fault) x y (told_both (Opens (Err fault)) OpensGood x y opens good) (told_unless fault x y good reads)) quiet)
 
@@ -96,6 +98,7 @@ told_unopened_refuses fault x y opens good reads = same_status fault (told_refus
     same_status open_fault.Disk r = r
     same_status open_fault.OutOfMemory r = r
     same_status open_fault.NotFormatted r = r
+    same_status (open_fault.BadImage place) r = r
     same_status (open_fault.BadRecord gate) r = r
     same_status (open_fault.BadSpelling gate) r = r
     same_status (open_fault.BadHistory gate) r = r
@@ -106,17 +109,17 @@ module _ (turns : ℕ) (s : StoreNow) (x y z : Option World) (h k l : Option (Li
   pub told_served_whole : Told (ServesToEnd s turns) (outer_of y k) (outer_of z l) → Told (ServeRun turns 0) (outer_of x h) (outer_of z l)
   told_served_whole serves =
       told_then (Quietly (OpenedAs s)) (ServesToEnd s turns) (ServeRun turns 0) (outer_of x h) (outer_of y k) (outer_of z l)
-      (λ a b d o p instance rs stands.
-      serve_whole turns instance rs s a b d o.world o.heard stands (p.on_book rs (stands_there turns instance rs s a b d o.world o.heard stands)))
+      (λ a b d o p form seat rs stands.
+      serve_whole turns form seat rs s a b d o.world o.heard stands (p.on_book rs (stands_there turns form seat rs s a b d o.world o.heard stands)))
       (told_quietly (OpenedAs s) x y h k opened quiet) serves
 
   pub told_served_part : (why : ServeFault) (before now : Faults) → IsServeCaused {A = Unit {0}} before now (Err why) → Told (ServesUpTo (IsOfDisk why) s turns) (outer_of y k) (outer_of z l)
       → Told (ServeRun turns (ends_with why)) (outer_of x h) (outer_of z l)
   told_served_part why before now caused serves =
       told_then (Quietly (OpenedAs s)) (ServesUpTo (IsOfDisk why) s turns) (ServeRun turns (ends_with why)) (outer_of x h) (outer_of y k) (outer_of z l)
-      (λ a b d o p instance rs stands.
-      serve_part turns instance rs s a b d o.world o.heard stands (ends_with why) (not_done why) (not_device {A = Unit {0}} why before now caused) (IsOfDisk why) (disk_status why)
-      (p.on_book rs (stands_there turns instance rs s a b d o.world o.heard stands)))
+      (λ a b d o p form seat rs stands.
+      serve_part turns form seat rs s a b d o.world o.heard stands (ends_with why) (not_done why) (not_device {A = Unit {0}} why before now caused) (IsOfDisk why) (disk_status why)
+      (p.on_book rs (stands_there turns form seat rs s a b d o.world o.heard stands)))
       (told_quietly (OpenedAs s) x y h k opened quiet) serves
 
   -- both, by how it ended
@@ -145,6 +148,7 @@ pub caused_by_opening : {T : Type 0} (fault : OpenFault) (before now : Faults) �
 caused_by_opening open_fault.Disk before now cause = record { later = cause.later; cause = cause.disk refl }
 caused_by_opening open_fault.OutOfMemory before now cause = record { later = cause.later; cause = tt }
 caused_by_opening open_fault.NotFormatted before now cause = record { later = cause.later; cause = tt }
+caused_by_opening (open_fault.BadImage place) before now cause = record { later = cause.later; cause = tt }
 caused_by_opening (open_fault.BadRecord gate) before now cause = record { later = cause.later; cause = tt }
 caused_by_opening (open_fault.BadSpelling gate) before now cause = record { later = cause.later; cause = tt }
 caused_by_opening (open_fault.BadHistory gate) before now cause = record { later = cause.later; cause = tt }
@@ -164,13 +168,14 @@ caused_behind before middle now (Err why) first second =
 -- ---- the end
 
 unopened_well : (fault : OpenFault) (before now : Faults) (a b : World) → OpenCause {T = StoreNow} before now (Err fault) → Opens (Err fault) a b → ServeEndsWell before now (ends_with (fault_of_opening fault)) a b
-unopened_well fault before now a b cause opens instance rs stands disk input = by fault cause (good_device instance rs fault a b stands opens)
+unopened_well fault before now a b cause opens form seat rs stands disk input = by fault cause (good_device form seat rs fault a b stands opens)
   where
     by : (fault : OpenFault) → OpenCause {T = StoreNow} before now (Err fault) → IsOfDiskOrMemory fault
         → (ends_with (fault_of_opening fault) ≡ DONE) ⊎ (ends_with (fault_of_opening fault) ≡ OUT_OF_MEMORY)
     by open_fault.Disk cause is = absurd (disk (cause.disk refl))
     by open_fault.OutOfMemory cause is = inr refl
     by open_fault.NotFormatted cause is = absurd is
+    by (open_fault.BadImage place) cause is = absurd is
     by (open_fault.BadRecord gate) cause is = absurd is
     by (open_fault.BadSpelling gate) cause is = absurd is
     by (open_fault.BadHistory gate) cause is = absurd is
@@ -181,11 +186,11 @@ told_unopened_ends_well fault before now x y cause opens =
     told_map (Opens (Err fault)) (ServeEndsWell before now (ends_with (fault_of_opening fault))) x y (λ a b. unopened_well fault before now a b cause) opens
 
 served_well : (result : Result (Unit {0}) ServeFault) (before middle now : Faults) → Later before middle → IsServeCaused middle now result → (a b : World) → ServeEndsWell before now (serve_status result) a b
-served_well (Ok done) before middle now later caused a b instance rs stands disk input = inl refl
-served_well (Err Device) before middle now later caused a b instance rs stands disk input = absurd caused.cause
-served_well (Err Wait) before middle now later caused a b instance rs stands disk input = absurd (input (cause_behind before middle now Wait later caused.later caused.cause))
-served_well (Err Disk) before middle now later caused a b instance rs stands disk input = absurd (disk (cause_behind before middle now Disk later caused.later caused.cause))
-served_well (Err OutOfMemory) before middle now later caused a b instance rs stands disk input = inr refl
+served_well (Ok done) before middle now later caused a b form seat rs stands disk input = inl refl
+served_well (Err Device) before middle now later caused a b form seat rs stands disk input = absurd caused.cause
+served_well (Err Wait) before middle now later caused a b form seat rs stands disk input = absurd (input (cause_behind before middle now Wait later caused.later caused.cause))
+served_well (Err Disk) before middle now later caused a b form seat rs stands disk input = absurd (disk (cause_behind before middle now Disk later caused.later caused.cause))
+served_well (Err OutOfMemory) before middle now later caused a b form seat rs stands disk input = inr refl
 
 pub told_served_ends_well : (s : StoreNow) (x y z : Option World) → Told (OpenedAs s) x y → (IsSome z → IsSome y) → (result : Result (Unit {0}) ServeFault) (before middle now : Faults) → Later before middle
     → IsServeCaused middle now result → Told (ServeEndsWell before now (serve_status result)) x z

@@ -19,7 +19,7 @@ use Rattle.iss_session.specs.Items.{HeardItem, Next, waits, nothing, is_answer_t
 use Rattle.iss_session.specs.Sessions.{Session, Queued, OpenRequest, unasked, wait_while, next_idle, next_of}
 use Rattle.iss_session.specs.Hearings.{one_less, after_arrival}
 use Rattle.iss_session.specs.Happenings.{IsNext}
-use Rattle.iss_store.specs.Values.{StoreNow}
+use Rattle.iss_opening.specs.Values.{StoreNow}
 use Rattle.iss_serve.specs.Held.{HeldNow, Stage, idle, to_judge, arrived, answers_unreached, session_at}
 use Rattle.iss_serve.specs.Runs.{ServesOn, ServesSome}
 use Rattle.iss_serve.proofs.Stages.{heard_on, heard_some}

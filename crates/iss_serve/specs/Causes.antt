@@ -1,8 +1,8 @@
 -- Why a run that serves ends early.
 use Rattle.std.specs.Prelude.{Result, IfErr}
 use Rattle.iss_edge.specs.World.{Faults, Later, Rose}
-use Rattle.iss_store.specs.declared.fault.OpenFault.{OpenFault}
-use Rattle.iss_store.specs.declared.fault.OpenFault.TheVariants as opening
+use Rattle.iss_opening.specs.declared.fault.OpenFault.{OpenFault}
+use Rattle.iss_opening.specs.declared.fault.OpenFault.TheVariants as opening
 use Rattle.iss_store.specs.declared.fault.StoreFault.{StoreFault}
 use Rattle.iss_store.specs.declared.fault.StoreFault.TheVariants as store
 use Rattle.iss_serve.specs.declared.fault.ServeFault.{ServeFault}
@@ -12,6 +12,7 @@ use Rattle.iss_serve.specs.declared.fault.ServeFault.TheVariants.{Device, Wait, 
 abbrev pub fault_of_opening : OpenFault → ServeFault
 fault_of_opening opening.Disk = Disk
 fault_of_opening opening.NotFormatted = Device
+fault_of_opening (opening.BadImage place) = Device
 fault_of_opening (opening.BadRecord gate) = Device
 fault_of_opening (opening.BadSpelling gate) = Device
 fault_of_opening (opening.BadHistory gate) = Device

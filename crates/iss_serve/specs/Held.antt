@@ -17,9 +17,9 @@ use Rattle.iss_session.specs.Hearings.{is_reading, is_waiting, is_linked, links_
 use Rattle.iss_link.specs.Values.{LinksNow}
 use Rattle.iss_link.specs.declared.gone.Gone as link
 use Rattle.iss_link.specs.declared.gone.Gone.TheVariants.{Asked, Noted, Unreached}
-use Rattle.iss_store.specs.Numbers.{is_from_one}
+use Rattle.iss_opening.specs.Numbers.{is_from_one}
 use Rattle.iss_store.specs.Routes.{IsServed}
-use Rattle.iss_store.specs.Values.{StoreNow, room_of}
+use Rattle.iss_opening.specs.Values.{StoreNow, room_of}
 use Rattle.iss_store.specs.Serving.{all_gone, tasks_pending}
 use Rattle.iss_serve.specs.declared.held.Held.{Held}
 use Rattle.iss_serve.specs.declared.held.QueuedInput.{QueuedInput}

@@ -8,9 +8,10 @@ use Rattle.iss_model.specs.rules.Judging.{judge}
 use Rattle.iss_model.specs.run.Rooms.{judgement_within}
 use Rattle.iss_session.specs.Judgements.{waiters_of}
 use Rattle.iss_session.specs.Sessions.{Queued}
-use Rattle.iss_store.specs.Values.{StoreNow, Plan, room_of}
+use Rattle.iss_opening.specs.Values.{StoreNow, room_of}
+use Rattle.iss_store.specs.Values.{Plan}
 use Rattle.iss_store.specs.Planning.{Plans}
-use Rattle.iss_store.specs.Standing.{StandsFor}
+use Rattle.iss_opening.specs.Standing.{StandsFor}
 use Rattle.iss_serve.specs.declared.held.Held.{Held}
 use Rattle.iss_serve.specs.Held.{HeldNow, IsHeld, IsOf, records_left}
 
@@ -19,7 +20,7 @@ pub record Judges (store next : StoreNow) (before after : Held) : Type 0 where
   pub held : IsHeld after
   pub instance : IsOf next after
   pub turns : after.turns ≡ before.turns
-  pub to : next.place.to ≡ store.place.to
+  pub size : next.layout.size ≡ store.layout.size
   pub moves : (records_left next < records_left store) ⊎ ((records_left next ≡ records_left store) × (after.unreached.items ≡ before.unreached.items))
 
 -- All inputs were judged: no call has an answer that is to be judged.
@@ -27,7 +28,7 @@ pub record Settles (store next : StoreNow) (before after : Held) : Type 0 where
   pub held : IsHeld after
   pub instance : IsOf next after
   pub turns : after.turns ≡ before.turns
-  pub to : next.place.to ≡ store.place.to
+  pub size : next.layout.size ≡ store.layout.size
   pub settled : after.unreached.items ≡ []
 
 -- an input is to be judged again before these, or no more

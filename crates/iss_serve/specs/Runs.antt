@@ -1,5 +1,5 @@
 -- A run that serves, since its store was opened, whatever records that stands for.
-use Rattle.std.specs.Prelude.{◌≡◌, ℕ, Bool, List, Option, Result, IfOk, IfErr, OnOk, OnErr}
+use Rattle.std.specs.Prelude.{◌≡◌, ℕ, Bool, List, Option, Some, Result, IfOk, IfErr, OnOk, OnErr}
 use Rattle.iss_edge.specs.declared.outside.Answered.{Answered}
 use Rattle.iss_edge.specs.declared.outside.Channel.{Channel}
 use Rattle.iss_edge.specs.World.{World}
@@ -12,8 +12,12 @@ use Rattle.iss_session.specs.Judgements.{answer_tasks}
 use Rattle.iss_session.specs.Sessions.{Session, Queued, session_of}
 use Rattle.iss_session_examples.specs.Program.{program_readers}
 use Rattle.iss_store.specs.Serving.{tasks_of_record}
-use Rattle.iss_store.specs.Values.{StoreNow, Plan, DurableNow, room_of}
-use Rattle.iss_store.specs.Standing.{StandsFor, AreHistory, region_under}
+use Rattle.iss_halves.specs.Forms.{Seat}
+use Rattle.iss_opening.specs.Values.{StoreNow, form_under, seat_under, room_of}
+use Rattle.iss_store.specs.Values.{Plan, DurableNow}
+use Rattle.iss_opening.specs.Standing.{StandsFor}
+use Rattle.iss_standing.specs.Standing.{AreHistory}
+use Rattle.iss_standing.specs.Rooms.{room_in}
 use Rattle.iss_serve.specs.declared.fault.ServeFault.{ServeFault}
 use Rattle.iss_serve.specs.declared.held.Held.{Held}
 use Rattle.iss_serve.specs.declared.held.QueuedInput.{QueuedInput}
@@ -26,17 +30,16 @@ use Rattle.iss_serve.specs.Goings.{SessionGoes, SessionGoesPart, GoesToEnd, reco
 pub record ServesFrom (x y : Stage) (rs : List Record) (a b : Outer) : Type 0 where
   pub now : List Record
   pub stands : StandsFor y.store now
-  pub goes : SessionGoes program_readers (region_under x.store) (session_at x rs) (session_at y now) a b
+  pub goes : SessionGoes program_readers (form_under x.store) (seat_under x.store) (seat_under y.store) (session_at x rs) (session_at y now) a b
 
--- A run went on from what stood to what then stands, whatever records the store stood for. The device is the same.
+-- A run went on from what stood to what then stands, whatever records the store stood for. The device has the same form.
 pub record ServesOn (x y : Stage) (a b : Outer) : Type 0 where
-  pub instance : y.store.core.instance ≡ x.store.core.instance
-  pub to : y.store.place.to ≡ x.store.place.to
+  pub form_is : form_under y.store ≡ form_under x.store
   pub on_book : (rs : List Record) → StandsFor x.store rs → ServesFrom x y rs a b
 
 -- A run went on in part from what stood, and might have gone on, unless this failed.
 pub record ServesSome (failed : Type 0) (x : Stage) (a b : Outer) : Type 0 where
-  pub on_book : (rs : List Record) → StandsFor x.store rs → SessionGoesPart failed program_readers (region_under x.store) (session_at x rs) a b
+  pub on_book : (rs : List Record) → StandsFor x.store rs → SessionGoesPart failed program_readers (form_under x.store) (seat_under x.store) (session_at x rs) a b
 
 -- If the call succeeded, the run went on from this stage to the one to which its result leads.
 abbrev pub ServesTo : {E T F : Type 0} → (E → Option World) → (E → Option (List Answered)) → E → E → Stage → Result T F → (T → Stage) → Type 0
@@ -122,10 +125,13 @@ PassesOver told heard a b before after ch =
 abbrev pub session_on : StoreNow → ℕ → List Record → Session
 session_on s turns rs = session_of (record { instance = s.core.instance; room = room_of s; history = history_of rs }) turns
 
--- a run on a store that stood for these records came to its end, and the store stands for the records that then stand
+-- A run on a store that stood for these records came to its end, at the seat of the room in which its session ends. The store stands for
+-- the records that then stand.
 pub record EndsWith (s : StoreNow) (turns : ℕ) (rs : List Record) (a b : Outer) : Type 0 where
   pub last : Session
-  pub goes : GoesToEnd program_readers (region_under s) (session_on s turns rs) last a b
+  pub seat : Seat
+  pub room_is : last.run.room ≡ Some (room_in (form_under s) seat)
+  pub goes : GoesToEnd program_readers (form_under s) (seat_under s) seat (session_on s turns rs) last a b
   pub history : AreHistory (records_in last)
 
 -- A run with this many turns went on to its end since its store was opened, whatever records that stood for.
@@ -134,4 +140,4 @@ pub record ServesToEnd (s : StoreNow) (turns : ℕ) (a b : Outer) : Type 0 where
 
 -- A run with this many turns ended by a fault since its store was opened, and might have gone on, unless this failed.
 pub record ServesUpTo (failed : Type 0) (s : StoreNow) (turns : ℕ) (a b : Outer) : Type 0 where
-  pub on_book : (rs : List Record) → StandsFor s rs → SessionGoesPart failed program_readers (region_under s) (session_on s turns rs) a b
+  pub on_book : (rs : List Record) → StandsFor s rs → SessionGoesPart failed program_readers (form_under s) (seat_under s) (session_on s turns rs) a b

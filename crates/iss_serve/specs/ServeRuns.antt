@@ -8,6 +8,7 @@ use Rattle.iss_edge.specs.declared.outside.Answered.TheVariants.{Waited}
 use Rattle.iss_edge.specs.Outer.{Outer}
 use Rattle.iss_edge.specs.World.{World, Faults, Later, Rose, sent_on}
 use Rattle.iss_edge.specs.Stretches.{Step, actions_of}
+use Rattle.iss_halves.specs.Forms.{Form, Seat}
 use Rattle.iss_model.specs.declared.input.Record.{Record}
 use Rattle.iss_session.specs.Items.{HeardItem, Happening, hears, answers_of}
 use Rattle.iss_session.specs.Sessions.{Session, session_of}
@@ -16,10 +17,11 @@ use Rattle.iss_session.specs.Accepted.{session_records}
 use Rattle.iss_session.specs.Openings.{left_open}
 use Rattle.iss_session.specs.Turns.{waits_in}
 use Rattle.iss_session_examples.specs.Program.{program_readers}
-use Rattle.iss_store.specs.Standing.{AreHistory, DeviceStandsFor}
-use Rattle.iss_store.specs.Goings.{channel_steps}
-use Rattle.iss_store.specs.Opening.{AreOnDevice, ReadsAlone}
-use Rattle.iss_device.specs.Runs.{run_on_device}
+use Rattle.iss_standing.specs.Standing.{AreHistory, DeviceStandsFor}
+use Rattle.iss_standing.specs.Rooms.{seat_of}
+use Rattle.iss_standing.specs.Goings.{channel_steps}
+use Rattle.iss_opening.specs.Opening.{AreOnDevice, ReadsAlone}
+use Rattle.iss_device.specs.Runs.{run_on}
 use Rattle.iss_device.specs.Moments.{EachMoment, EachMomentUnsynced, EachStopStands, EndsAtRest}
 use Rattle.iss_serve.specs.declared.fault.ServeFault.{ServeFault}
 use Rattle.iss_serve.specs.declared.fault.ServeFault.TheVariants.{Device, Wait, Disk, OutOfMemory}
@@ -33,9 +35,9 @@ serve_status (Err Device) = BAD_DEVICE
 serve_status (Err Disk) = DISK_FAULT
 serve_status (Err OutOfMemory) = OUT_OF_MEMORY
 
--- the session with which a run begins on a device of this instance that stands for these records, with this many waits to come
-abbrev pub session_on_device : ℕ → ℕ → List Record → List ℕ → Session
-session_on_device turns instance rs device = session_of (run_on_device instance rs device) turns
+-- the session with which a run begins on a device of this form that stands for these records at this seat, with this many waits to come
+abbrev pub session_on_device : ℕ → Form → Seat → List Record → Session
+session_on_device turns form seat rs = session_of (run_on form seat rs) turns
 
 -- the session once this happened
 abbrev pub session_then : Session → List Happening → Session
@@ -76,15 +78,15 @@ pub record AllClosed (s : Session) (happenings : List Happening) : Type 0 where
       → left_open ch.0 true (actions_of (all_steps_said (session_then s (before ++ hears item ∷ [])) after)) ≡ false
 
 -- What a run did that served to its end: no wait failed, and nothing was left to hear. Each channel has exactly the bytes that the session
--- says, and was closed after its last bytes. The device stands for the records that stood and those that the session made. If the run began at rest, the
--- next one begins there.
-pub record ServedWhole (instance : ℕ) (rs : List Record) (s : Session) (happenings : List Happening) (actions : List Action) (a b : World) : Type 0 where
+-- says, and was closed after its last bytes. The device stands for the records that stood and those that the session made, at the seat of
+-- the room that is left then. If the run began at rest, the next one begins there.
+pub record ServedWhole (form : Form) (rs : List Record) (s : Session) (happenings : List Happening) (actions : List Action) (a b : World) : Type 0 where
   pub came : NoWaitFailed happenings
   pub complete : IsComplete (session_then s happenings)
   pub sent : (ch : ℕ) → sent_on ch b.trace ≡ sent_on ch a.trace ++ sent_on ch (actions_of (steps_said s happenings))
   pub closed : AllClosed s happenings
-  pub stands : DeviceStandsFor instance (records_then rs s happenings) b.device
-  pub ends : EndsAtRest instance rs (records_then rs s happenings) actions a b
+  pub stands : DeviceStandsFor form (seat_of (session_then s happenings).run.room) (records_then rs s happenings) b.device
+  pub ends : EndsAtRest form rs (records_then rs s happenings) actions a b
 
 -- What a run with this status did that began with the session s, on a device that stands for these records. It heard what its session
 -- called for, and waited at most as often as it has turns. The opening of the device writes to it and syncs it, and no more. What was
@@ -94,7 +96,7 @@ pub record ServedWhole (instance : ℕ) (rs : List Record) (s : Session) (happen
 -- record that was left behind may stand too. The same holds of a device with unsynced writes, once a sync of the opening has succeeded.
 -- The next run may begin with what a stop leaves. At 0 all of it was done. Unless a call on the device failed, nothing was done but maybe
 -- a sync, or the run ended where the next one begins.
-pub record ServeOn (turns status instance : ℕ) (rs : List Record) (s : Session) (a b : Outer) : Type 0 where
+pub record ServeOn (turns status : ℕ) (form : Form) (rs : List Record) (s : Session) (a b : Outer) : Type 0 where
   pub happenings : List Happening
   pub heard : b.heard ≡ a.heard ++ answers_of happenings
   pub fits : Fits program_readers s happenings
@@ -106,19 +108,19 @@ pub record ServeOn (turns status instance : ℕ) (rs : List Record) (s : Session
   pub done : DoneAt status s happenings (channel_steps (opening ++ later))
   pub sent : (ch : ℕ) → SentInPart ch (steps_said s happenings) a.world b.world
   pub history : AreHistory (records_then rs s happenings)
-  pub moments : EachMoment instance rs (records_then rs s happenings) opening later a.world.device
-  pub unsynced : EachMomentUnsynced instance rs (records_then rs s happenings) opening later a.world.device
-  pub stops : EachStopStands instance rs (records_then rs s happenings) (opening ++ later) a.world.device
-  pub whole : status ≡ DONE → ServedWhole instance rs s happenings (actions_of (opening ++ later)) a.world b.world
+  pub moments : EachMoment form rs (records_then rs s happenings) opening later a.world.device
+  pub unsynced : EachMomentUnsynced form rs (records_then rs s happenings) opening later a.world.device
+  pub stops : EachStopStands form rs (records_then rs s happenings) (opening ++ later) a.world.device
+  pub whole : status ≡ DONE → ServedWhole form rs s happenings (actions_of (opening ++ later)) a.world b.world
   pub ended : (status ≡ DISK_FAULT → ⊥)
-      → ReadsAlone a.world b.world ⊎ EndsAtRest instance rs (records_then rs s happenings) (actions_of (opening ++ later)) a.world b.world
+      → ReadsAlone a.world b.world ⊎ EndsAtRest form rs (records_then rs s happenings) (actions_of (opening ++ later)) a.world b.world
   pub other_device : status ≡ BAD_DEVICE → ⊥
 
 -- what such a run did, whichever records the device stands for, if any
 abbrev pub ServeRun : ℕ → ℕ → Outer → Outer → Type 0
 ServeRun turns status a b =
-    (instance : ℕ) (rs : List Record) → DeviceStandsFor instance rs a.world.device
-    → ServeOn turns status instance rs (session_on_device turns instance rs a.world.device) a b
+    (form : Form) (seat : Seat) (rs : List Record) → DeviceStandsFor form seat rs a.world.device
+    → ServeOn turns status form rs (session_on_device turns form seat rs) a b
 
 -- why a run that serves may end early: clients' channels and those to the gateway may fail without that
 abbrev pub EndingCause : Faults → Faults → ServeFault → Type 0
@@ -135,6 +137,6 @@ pub record EndsCaused {A : Type 0} (before now : Faults) (result : Result A Serv
 -- If no count on the device or on input rose, and the device stands for records, the status is 0 or 7. Peers and links may fail.
 abbrev pub ServeEndsWell : Faults → Faults → ℕ → World → World → Type 0
 ServeEndsWell before now status a b =
-    (instance : ℕ) (rs : List Record) → DeviceStandsFor instance rs a.device
+    (form : Form) (seat : Seat) (rs : List Record) → DeviceStandsFor form seat rs a.device
     → (Rose before.disk now.disk → ⊥) → (Rose before.input now.input → ⊥)
     → (status ≡ DONE) ⊎ (status ≡ OUT_OF_MEMORY)

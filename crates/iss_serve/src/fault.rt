@@ -35,6 +35,7 @@ impl From<OpenFault> for ServeFault {
             OpenFault::Disk => ServeFault::Disk,
             OpenFault::OutOfMemory => ServeFault::OutOfMemory,
             OpenFault::NotFormatted
+            | OpenFault::BadImage(_)
             | OpenFault::BadRecord(_)
             | OpenFault::BadSpelling(_)
             | OpenFault::BadHistory(_) => ServeFault::Device,

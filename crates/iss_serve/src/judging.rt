@@ -27,7 +27,7 @@ pub(crate) fn judge_all<E: Edge>(
     first: &QueuedInput,
     edge: &mut E,
 ) -> Result<Store, ServeFault>
-    requires size { E.extent edge.old ≡ store.place.to }
+    requires size { E.extent edge.old ≡ store.layout.size }
     requires held { IsHeld held.old }
     requires instance { IsOf store held.old }
     requires form { IsQueuedInForm first.now }
@@ -49,7 +49,7 @@ pub(crate) fn judge_unreached<E: Edge>(
     held: &mut Held,
     edge: &mut E,
 ) -> Result<Store, ServeFault>
-    requires size { E.extent edge.old ≡ store.place.to }
+    requires size { E.extent edge.old ≡ store.layout.size }
     requires held { IsHeld held.old }
     requires instance { IsOf store held.old }
     ensures judged { ServesTo E.told E.heard edge.old edge.new (resting held.old store) result (resting held.new) }
@@ -75,7 +75,7 @@ fn judge_each<E: Edge>(
     calls: &[CallId],
     edge: &mut E,
 ) -> Result<Store, ServeFault>
-    requires size { E.extent edge.old ≡ store.place.to }
+    requires size { E.extent edge.old ≡ store.layout.size }
     requires held { IsHeld held.old }
     requires numbered { CallsNumbered calls.now }
     requires instance { IsOf store held.old }
@@ -104,7 +104,7 @@ fn judge<E: Edge>(
     queued: &QueuedInput,
     edge: &mut E,
 ) -> Result<Store, ServeFault>
-    requires size { E.extent edge.old ≡ store.place.to }
+    requires size { E.extent edge.old ≡ store.layout.size }
     requires held { IsHeld held.old }
     requires instance { IsOf store held.old }
     requires form { IsQueuedInForm queued.now }
@@ -128,12 +128,12 @@ fn judge<E: Edge>(
 /// Judges an input once, and tells whether it is to be judged again, after a time record that was made first.
 fn judge_once<E: Edge>(
     alloc: Global,
-    store: Store,
+    mut store: Store,
     held: &mut Held,
     queued: &QueuedInput,
     edge: &mut E,
 ) -> Result<(Store, bool), ServeFault>
-    requires size { E.extent edge.old ≡ store.place.to }
+    requires size { E.extent edge.old ≡ store.layout.size }
     requires held { IsHeld held.old }
     requires instance { IsOf store held.old }
     requires form { IsQueuedInForm queued.now }
@@ -169,7 +169,7 @@ fn keep<E: Edge>(
     queued: &QueuedInput,
     edge: &mut E,
 ) -> Result<Store, ServeFault>
-    requires size { E.extent edge.old ≡ store.place.to }
+    requires size { E.extent edge.old ≡ store.layout.size }
     requires held { IsHeld held.old }
     requires instance { IsOf store held.old }
     requires plan { IsPlanOf store planned }

@@ -46,7 +46,7 @@ fn serve_on<E: Edge>(
     turns: u32,
     edge: &mut E,
 ) -> Result<(), ServeFault>
-    requires size { E.extent edge.old ≡ store.place.to }
+    requires size { E.extent edge.old ≡ store.layout.size }
     ensures whole { OnOk result (ToldBoth E.told E.heard (ServesToEnd store turns) edge.old edge.new) }
     ensures part { IfErr result (λ why. ToldBoth E.told E.heard (ServesUpTo (IsOfDisk why) store turns) edge.old edge.new) }
     ensures alone { StillTold E.told edge.old edge.new }
@@ -67,7 +67,7 @@ fn resume<E: Edge>(
     held: &mut Held,
     edge: &mut E,
 ) -> Result<Store, ServeFault>
-    requires size { E.extent edge.old ≡ store.place.to }
+    requires size { E.extent edge.old ≡ store.layout.size }
     requires held { IsHeld held.old }
     requires instance { IsOf store held.old }
     ensures resumed { ServesTo E.told E.heard edge.old edge.new
@@ -90,7 +90,7 @@ fn wait_on<E: Edge>(
     held: &mut Held,
     edge: &mut E,
 ) -> Result<Store, ServeFault>
-    requires size { E.extent edge.old ≡ store.place.to }
+    requires size { E.extent edge.old ≡ store.layout.size }
     requires held { IsHeld held.old }
     requires instance { IsOf store held.old }
     requires settled { held.old.unreached.items ≡ [] }
@@ -115,7 +115,7 @@ fn turn<E: Edge>(
     held: &mut Held,
     edge: &mut E,
 ) -> Result<Store, ServeFault>
-    requires size { E.extent edge.old ≡ store.place.to }
+    requires size { E.extent edge.old ≡ store.layout.size }
     requires held { IsHeld held.old }
     requires instance { IsOf store held.old }
     requires settled { held.old.unreached.items ≡ [] }
@@ -127,7 +127,7 @@ fn turn<E: Edge>(
     ensures instance { IfOk result (λ next. IsOf next held.new) }
     ensures settled { IfOk result (λ next. held.new.unreached.items ≡ []) }
     ensures turns { IfOk result (λ next. held.new.turns < held.old.turns) }
-    ensures to { IfOk result (λ next. next.place.to ≡ store.place.to) }
+    ensures same_size { IfOk result (λ next. next.layout.size ≡ store.layout.size) }
     ensures caused { IsServeCaused (E.faults edge.old) (E.faults edge.new) result }
     ensures kept { Stays E.extent edge.old edge.new }
 {

@@ -1,11 +1,11 @@
 //! The image of a core, and a core from an image.
-ghost use Rattle.std.specs.Prelude.{◌≡◌, ◌<◌, List, None, IfOk, IfSome};
+ghost use Rattle.std.specs.Prelude.{◌≡◌, ◌<◌, List, [], None, IfOk, IfSome};
 ghost use Rattle.iss_model.specs.declared.input.Record.{Record};
 ghost use Rattle.iss_model.specs.declared.limits.TheConstants.{INSTANCES};
 ghost use Rattle.iss_states.specs.Showing.{shown};
 ghost use Rattle.iss_image.specs.States.{image_of_state};
 ghost use Rattle.iss_core.specs.Values.{CoreStandsFor};
-ghost use Rattle.iss_snapshot.specs.Loaded.{IsImageOfBook, IsLoaded, IsOfNoState};
+ghost use Rattle.iss_snapshot.specs.Loaded.{IsImageOfBook, IsLoaded, IsMadeFor, IsOfNoState, MakesHistory};
 
 use iss_core::Core;
 use iss_image::{read, spell};
@@ -22,11 +22,13 @@ pub fn image_of(alloc: Global, core: &Core) -> Result<Vec<u8>, AllocError>
 }
 
 /// The core that an image makes again, for the device of this instance. `None` exactly if the bytes are the image of no
-/// sound state.
+/// sound state. An empty image makes a core that stands for no records.
 pub fn load(alloc: Global, image: &[u8], instance: u64) -> Result<Option<Core>, AllocError>
     requires { instance < INSTANCES }
     ensures none { IfOk result (λ core. core ≡ None → IsOfNoState image.now) }
     ensures loaded { IfOk result (λ core. IfSome core (IsLoaded image.now instance)) }
+    ensures of_history { IfOk result (MakesHistory image.now) }
+    ensures of_no_record { image.now ≡ [] → IfOk result (IsMadeFor []) }
 {
     match read(alloc, image)? {
         Some(state) => Core::restore(alloc, &state, instance),

@@ -1,9 +1,12 @@
 //! The image of a core: the bytes of what it keeps, and the core that they make again.
 //!
 //! It may cite `iss_model`, `iss_image`, `iss_core` and the laws over states.
-//! It must not cite a device: where an image stands is not its matter.
+//! `Halves`, which knows where an image stands on a device, is handed on from `iss_halves`. Nothing else here speaks of a device.
 #![tactic(auto)]
 
 mod image;
+mod laws;
 
 pub use image::{image_of, load};
+pub use iss_halves::Halves;
+pub use laws::histories_have_images;

@@ -10,7 +10,7 @@ use Rattle.iss_model.specs.Tokens.{is_token}
 use Rattle.iss_model.specs.texts.Spelling.{spelling, tokens_of}
 use Rattle.iss_model.specs.run.Rooms.{need_of}
 use Rattle.iss_store.specs.Values.{IsFramed}
-use Rattle.iss_store.proofs.Lengths.{spelled_body}
+use Rattle.iss_standing.proofs.Lengths.{spelled_body}
 
 -- what was begun, with a record spelled after it, holds a body
 pub begun_some : (r : Record) (bytes : List ℕ) → is_in_form r.input ≡ true → list_all is_token (tokens_of r.input) ≡ true → bytes ≡ no_length ++ spelling r → LENGTH < length bytes

@@ -15,7 +15,7 @@ use Rattle.iss_session.specs.Items.{HeardItem}
 use Rattle.iss_session.specs.Desks.{Task, to_dial, to_send, to_reply, Waiter, Desk, desk_with, task_change, desk_change_by, desk_change, desk_after, TextFate}
 use Rattle.iss_session.specs.Sendings.{Sends}
 use Rattle.iss_session.specs.Sessions.{tasks_of}
-use Rattle.iss_store.specs.Values.{StoreNow}
+use Rattle.iss_opening.specs.Values.{StoreNow}
 use Rattle.iss_store.specs.Serving.{tasks_pending, waiters_after, SendsOn}
 use Rattle.iss_store.proofs.ServedTexts.{whole_desk}
 

@@ -19,8 +19,9 @@ use Rattle.iss_texts.proofs.Rows.{gains_then, gained_all}
 use Rattle.iss_core.specs.Values.{CoreNow}
 use Rattle.iss_core.specs.Views.{asked_openings}
 use Rattle.iss_core.proofs.OnBook.{facts_on_book}
-use Rattle.iss_store.specs.Values.{StoreNow, DurableNow, said_of}
-use Rattle.iss_store.specs.Standing.{StandsFor}
+use Rattle.iss_opening.specs.Values.{StoreNow}
+use Rattle.iss_store.specs.Values.{DurableNow, said_of}
+use Rattle.iss_opening.specs.Standing.{StandsFor}
 use Rattle.iss_store.specs.Saying.{request_texts, notice_texts, texts_pending, texts_pending_on_book}
 
 entries_said : (instance : ℕ) (es : List Entry) → said_texts instance (flat_map said_by es) ≡ flat_map (entry_texts_at instance) es

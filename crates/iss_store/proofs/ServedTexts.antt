@@ -32,8 +32,9 @@ use Rattle.iss_link.specs.declared.gone.Gone.TheVariants.{Asked, Noted, Unreache
 use Rattle.iss_link.specs.Values.{gone_as}
 use Rattle.iss_core.specs.Views.{asked_openings}
 use Rattle.iss_core.proofs.OnBook.{facts_on_book}
-use Rattle.iss_store.specs.Values.{StoreNow, DurableNow}
-use Rattle.iss_store.specs.Standing.{StandsFor}
+use Rattle.iss_opening.specs.Values.{StoreNow}
+use Rattle.iss_store.specs.Values.{DurableNow}
+use Rattle.iss_opening.specs.Standing.{StandsFor}
 use Rattle.iss_store.specs.Serving.{tasks_by, tasks_of_record, tasks_pending, tasks_pending_on_book, waiters_after, all_gone, SendsOn, SendsPart, SendsSomeOf, is_unreached, CausesGone, NotesSent, SentFirst}
 
 -- ---- one after the other

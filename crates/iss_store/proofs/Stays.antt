@@ -9,7 +9,8 @@ use Rattle.iss_edge.specs.World.{World, Told}
 use Rattle.iss_edge.specs.Stretches.{AddsStill, AreStill}
 use Rattle.iss_edge.proofs.StretchLemmas.{still_append, still_goes_on, still_self}
 use Rattle.iss_edge.proofs.Tolds.{told_map, told_self}
-use Rattle.iss_journal.specs.Region.{RestsFirst, StandsFirst}
+use Rattle.iss_standing.specs.Standing.{RestsAt, StandsAt}
+use Rattle.iss_standing.proofs.Holds.{rests_stand}
 use Rattle.iss_texts.specs.Sending.{emits, FailsAt, Says, SaysSome}
 use Rattle.iss_texts.proofs.Saying.{says_all}
 use Rattle.iss_texts.proofs.ToldSaying.{told_prefix}
@@ -34,8 +35,8 @@ still_stays a b adds =
       grew = adds.grew;
       still = adds.still;
       goes_on =
-          λ region bodies j steps e sent.
-          still_goes_on (RestsFirst region bodies) (StandsFirst region bodies) j steps (λ bytes rests. inl rests)
+          λ form seat rs j steps e sent.
+          still_goes_on (RestsAt form seat rs) (StandsAt form rs) j steps (λ bytes rests. rests_stand form seat rs bytes j rests)
           (subst AreStill (sym e) adds.still) sent;
     }
 

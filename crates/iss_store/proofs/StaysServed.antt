@@ -8,7 +8,8 @@ use Rattle.iss_edge.specs.World.{World, Told}
 use Rattle.iss_edge.specs.Stretches.{AreStill}
 use Rattle.iss_edge.proofs.StretchLemmas.{emit_still, emit_failed_still, still_append, still_goes_on}
 use Rattle.iss_edge.proofs.Tolds.{told_map, told_then}
-use Rattle.iss_journal.specs.Region.{RestsFirst, StandsFirst}
+use Rattle.iss_standing.specs.Standing.{RestsAt, StandsAt}
+use Rattle.iss_standing.proofs.Holds.{rests_stand}
 use Rattle.iss_store.specs.Saying.{StaysGood}
 
 stays_still : (a b : World) (added : List Action) → b.device ≡ a.device → b.trace ≡ a.trace ++ added → AreStill added → StaysGood a b
@@ -19,8 +20,8 @@ stays_still a b added device grew still =
       grew = grew;
       still = still;
       goes_on =
-          λ region bodies j steps e sent.
-          still_goes_on (RestsFirst region bodies) (StandsFirst region bodies) j steps (λ bytes rests. inl rests)
+          λ form seat rs j steps e sent.
+          still_goes_on (RestsAt form seat rs) (StandsAt form rs) j steps (λ bytes rests. rests_stand form seat rs bytes j rests)
           (subst AreStill (sym e) still) sent;
     }
 

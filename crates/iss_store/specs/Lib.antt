@@ -1,12 +1,8 @@
-pub mod Numbers
 pub mod Values
-pub mod Standing
-pub mod Goings
-pub mod Faults
 pub mod Planning
 pub mod Committing
+pub mod Putting
 pub mod Saying
-pub mod Opening
 pub mod Waiting
 pub mod Routes
 pub mod Serving

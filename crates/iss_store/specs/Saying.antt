@@ -6,7 +6,7 @@ use Rattle.iss_edge.specs.Channels.{Channels}
 use Rattle.iss_edge.specs.World.{World, Faults, Told, Later, Rose, Stays}
 use Rattle.iss_edge.specs.Outer.{Adds, ToldBoth}
 use Rattle.iss_edge.specs.Stretches.{Step, actions_of, SentUpTo, GoesOn, AreStill}
-use Rattle.iss_journal.specs.Region.{Region, RestsFirst, StandsFirst}
+use Rattle.iss_halves.specs.Forms.{Form, Seat}
 use Rattle.iss_model.specs.declared.input.Record.{Record}
 use Rattle.iss_model.specs.declared.call.Notice.{Notice}
 use Rattle.iss_model.specs.declared.call.Opened.{Opened}
@@ -18,8 +18,10 @@ use Rattle.iss_texts.specs.TextRows.{said_texts}
 use Rattle.iss_texts.specs.Sending.{Says, SaysSome, SentEach, StopsAt}
 use Rattle.iss_store.specs.declared.fault.StoreFault.{StoreFault}
 use Rattle.iss_store.specs.declared.fault.StoreFault.TheVariants.{Disk, Output, OutOfMemory}
-use Rattle.iss_store.specs.Standing.{StandsFor}
-use Rattle.iss_store.specs.Values.{StoreNow, DurableNow, said_of}
+use Rattle.iss_standing.specs.Standing.{RestsAt, StandsAt}
+use Rattle.iss_opening.specs.Values.{StoreNow}
+use Rattle.iss_opening.specs.Standing.{StandsFor}
+use Rattle.iss_store.specs.Values.{DurableNow, said_of}
 
 -- the record of the store's last commit
 abbrev pub IsDurableOf : StoreNow → DurableNow → Type 0
@@ -56,9 +58,9 @@ pub record StaysGood (a b : World) : Type 0 where
   pub added : List Action
   pub grew : b.trace ≡ a.trace ++ added
   pub still : AreStill added
-  pub goes_on : (region : Region) (bodies : List (List ℕ)) (j : ℕ) (steps : List Step)
+  pub goes_on : (form : Form) (seat : Seat) (rs : List Record) (j : ℕ) (steps : List Step)
       → actions_of steps ≡ added → SentUpTo j steps
-      → GoesOn (RestsFirst region bodies) (StandsFirst region bodies) (RestsFirst region bodies) j j steps
+      → GoesOn (RestsAt form seat rs) (StandsAt form rs) (RestsAt form seat rs) j j steps
 
 -- No count of faults has fallen. If the call failed by an output, the output's count rose. It never fails by the disk.
 pub record SayingCause {T : Type 0} (before now : Faults) (result : Result T StoreFault) : Type 0 where

@@ -30,9 +30,10 @@ use Rattle.iss_link.specs.declared.gone.Gone.TheVariants.{Asked, Noted, Unreache
 use Rattle.iss_link.specs.Values.{gone_as}
 use Rattle.iss_store.specs.declared.fault.StoreFault.{StoreFault}
 use Rattle.iss_store.specs.declared.fault.StoreFault.TheVariants.{OutOfMemory}
-use Rattle.iss_store.specs.Numbers.{is_from_one}
-use Rattle.iss_store.specs.Standing.{StandsFor}
-use Rattle.iss_store.specs.Values.{StoreNow, DurableNow, said_of}
+use Rattle.iss_opening.specs.Numbers.{is_from_one}
+use Rattle.iss_opening.specs.Standing.{StandsFor}
+use Rattle.iss_opening.specs.Values.{StoreNow}
+use Rattle.iss_store.specs.Values.{DurableNow, said_of}
 
 -- the texts that go out for an entry
 abbrev pub tasks_by : ℕ → List Waiter → Entry → List Task

@@ -1,6 +1,6 @@
 //! A record that lasts.
 ghost use Rattle.std.specs.Prelude.{◌≡◌};
-ghost use Rattle.iss_store.specs.Numbers.{AreNumbered};
+ghost use Rattle.iss_opening.specs.Numbers.{AreNumbered};
 
 use iss_model::Entry;
 use std::marker::Model;
@@ -21,7 +21,7 @@ impl Model for Durable {
 
     ghost view = { λ d. record { number = d.number; entries = d.entries.items; is_time = d.is_time } };
 
-    ghost use Rattle.iss_store.specs.Numbers.{AreNumbered};
+    ghost use Rattle.iss_opening.specs.Numbers.{AreNumbered};
 
     ghost invariant = { λ d. AreNumbered d.entries.items };
 }

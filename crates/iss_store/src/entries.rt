@@ -4,7 +4,7 @@ ghost use Rattle.iss_edge.specs.World.{Told, Later, Stays};
 ghost use Rattle.iss_edge.specs.Outer.{Adds, ToldBoth};
 ghost use Rattle.iss_model.specs.declared.limits.TheConstants.{INSTANCES};
 ghost use Rattle.iss_store.specs.Saying.{StaysGood};
-ghost use Rattle.iss_store.specs.Numbers.{is_from_one, is_numbered, AreNumbered};
+ghost use Rattle.iss_opening.specs.Numbers.{is_from_one, is_numbered, AreNumbered};
 ghost use Rattle.iss_store.specs.Serving.{NotesOn, NotesGone, NotesAnswered, SendsSomeOf, SendsOn, CausesGone, tasks_by, tasks_by_each, decision_tasks, request_tasks, notice_tasks, all_gone, has_number, HaveNumbers};
 
 use crate::message::Message;

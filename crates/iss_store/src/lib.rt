@@ -4,7 +4,7 @@
 //! fits, and can't be sent. A `Durable` is a record that lasts, and only a commit makes one. Between a plan and its open gate
 //! nothing but the device can refuse.
 //!
-//! It may cite `iss_edge`, `iss_channels`, `iss_journal`, `iss_codec`, `iss_core`, `iss_http`, `iss_jit`, `iss_session`, `iss_link`,
+//! It may cite `iss_edge`, `iss_channels`, `iss_journal`, `iss_halves`, `iss_standing`, `iss_opening`, `iss_snapshot`, `iss_codec`, `iss_core`, `iss_http`, `iss_jit`, `iss_session`, `iss_link`,
 //! `iss_event`, `iss_texts`, `iss_model` and its laws.
 //! It must not cite lines that come in, nor what a run is for.
 #![tactic(auto)]
@@ -12,10 +12,9 @@
 mod durable;
 mod entries;
 mod fault;
-mod laws;
 mod message;
-mod opening;
 mod planned;
+mod putting;
 mod releasing;
 mod routes;
 mod saying;
@@ -25,10 +24,8 @@ mod store;
 mod waiting;
 
 pub use durable::Durable;
-pub use fault::{OpenFault, PlanFault, StoreFault};
-pub use laws::{
-    calls_and_notices_are_numbered, good_devices_open, the_journal_has_the_sizes_of_the_model,
-};
+pub use fault::{PlanFault, StoreFault};
+pub use iss_opening::OpenFault;
 pub use planned::Planned;
 pub use routes::Routes;
 pub use sending::reply;

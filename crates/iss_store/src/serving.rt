@@ -3,7 +3,7 @@ ghost use Rattle.std.specs.Prelude.{◌≡◌, [], ◌++◌, map, IfOk, OnOk};
 ghost use Rattle.iss_edge.specs.World.{Told, Stays};
 ghost use Rattle.iss_model.specs.declared.entry.Entry.TheVariants as entry_of;
 ghost use Rattle.iss_store.specs.Saying.{StaysGood, SayingCause};
-ghost use Rattle.iss_store.specs.Numbers.{AreNumbered};
+ghost use Rattle.iss_opening.specs.Numbers.{AreNumbered};
 ghost use Rattle.iss_store.specs.Serving.{SendsAnswer, SendsPending, SendsRecord, CausesGone, HaveNumbers, tasks_by_each, tasks_pending};
 
 use crate::entries::send_entries;
@@ -76,7 +76,7 @@ impl Store {
     }
 
     /// The entries of what still waits for the gateway.
-    #[tactic(auto, using(crate::proofs::ServedTexts::pending_tasks, crate::proofs::Numbered::pending_numbered))]
+    #[tactic(auto, using(crate::proofs::ServedTexts::pending_tasks, crate::proofs::Waits::pending_numbered))]
     fn pending_entries(&self, alloc: Global) -> Result<Vec<Entry>, AllocError>
         ensures tasks { IfOk result (λ entries. tasks_by_each self.now.core.instance [] entries.items ≡ tasks_pending self.now) }
         ensures numbered { IfOk result (λ entries. AreNumbered entries.items) }

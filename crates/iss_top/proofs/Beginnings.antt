@@ -10,14 +10,14 @@ use Rattle.iss_model.specs.declared.limits.TheConstants.{MOST_INPUT}
 use Rattle.iss_model.specs.run.Transcripts.{Text, at_level}
 use Rattle.iss_model.specs.run.Runs.{first_texts}
 use Rattle.iss_agreement.proofs.Records.{records_history}
-use Rattle.iss_store.specs.Values.{StoreNow}
-use Rattle.iss_store.specs.Opening.{is_on_device, AreOnDevice}
+use Rattle.iss_opening.specs.Values.{StoreNow, form_under, seat_under}
+use Rattle.iss_opening.specs.Opening.{is_on_device, AreOnDevice}
 use Rattle.iss_store.specs.Saying.{texts_pending, texts_pending_on_book}
 use Rattle.iss_texts.specs.Sending.{Says, SaysSome}
 use Rattle.iss_device.specs.Runs.{run_at}
 use Rattle.iss_top.specs.Lines.{line_parts, all_but_last}
 use Rattle.iss_top.specs.Progress.{is_output}
-use Rattle.iss_store.specs.Goings.{AreFirstOf}
+use Rattle.iss_standing.specs.Goings.{AreFirstOf}
 use Rattle.iss_top.specs.Replaying.{told_lines, is_of_run, outputs_of, output_levels, TextsGo, TextsGoPart, GoesWhole, RunsAs, RunsOnBook}
 use Rattle.iss_top.proofs.Goings.{goes_then, goes_then_part, part_more, says_goes, says_goes_part}
 use Rattle.iss_top.proofs.ToldLines.{told_from_start, records_first}
@@ -70,23 +70,26 @@ waits_first s rs =
 waits : (s : StoreNow) (rs : List Record) → texts_pending s ≡ texts_pending_on_book s.core.instance rs → at_level (length rs) (texts_pending s) ≡ first_texts (run_at s rs)
 waits s rs on_book = ap (at_level (length rs)) on_book ∙ waits_first s rs
 
-pub begins_goes : (s : StoreNow) (rs : List Record) (b c : World) → texts_pending s ≡ texts_pending_on_book s.core.instance rs → Says (texts_pending s) b c → TextsGo s rs rs (first_texts (run_at s rs)) b c
+pub begins_goes : (s : StoreNow) (rs : List Record) (b c : World) → texts_pending s ≡ texts_pending_on_book s.core.instance rs → Says (texts_pending s) b c → TextsGo (form_under s) (seat_under s) (seat_under s) rs rs (first_texts (run_at s rs)) b c
 begins_goes s rs b c on_book says =
-    subst (λ (t : List Text). TextsGo s rs rs t b c) (waits s rs on_book) (says_goes s rs (texts_pending s) b c says)
+    subst (λ (t : List Text). TextsGo (form_under s) (seat_under s) (seat_under s) rs rs t b c) (waits s rs on_book)
+    (says_goes (form_under s) (seat_under s) rs (texts_pending s) b c says)
 
 -- ---- the lines after it
 
 -- what was done for the lines, after what waited
-whole_from_start : (s : StoreNow) (rs : List Record) (parts : List (List ℕ)) (b c d : World) → TextsGo s rs rs (first_texts (run_at s rs)) b c → GoesWhole s rs (told_lines (run_at s rs) parts) c d
+whole_from_start : (s : StoreNow) (rs : List Record) (parts : List (List ℕ)) (b c d : World) → TextsGo (form_under s) (seat_under s) (seat_under s) rs rs (first_texts (run_at s rs)) b c → GoesWhole s rs (told_lines (run_at s rs) parts) c d
     → GoesWhole s rs (told_from_start (run_at s rs) parts) b d
 whole_from_start s rs parts b c d begins lines =
     let told = told_lines (run_at s rs) parts in
     record {
-      goes = goes_then s rs rs told.run.history.records (first_texts (run_at s rs)) told.texts b c d begins lines.goes;
+      to = lines.to;
+      room = lines.room;
+      goes = goes_then (form_under s) (seat_under s) (seat_under s) lines.to rs rs told.run.history.records (first_texts (run_at s rs)) told.texts b c d begins lines.goes;
       history = lines.history;
     }
 
-pub lines_from_start : (status : ℕ) (s : StoreNow) (rs : List Record) (took : List ℕ) (b c d : World) → c.left ≡ b.left → TextsGo s rs rs (first_texts (run_at s rs)) b c → RunsOnBook status s rs took c d
+pub lines_from_start : (status : ℕ) (s : StoreNow) (rs : List Record) (took : List ℕ) (b c d : World) → c.left ≡ b.left → TextsGo (form_under s) (seat_under s) (seat_under s) rs rs (first_texts (run_at s rs)) b c → RunsOnBook status s rs took c d
     → RunsAs (told_from_start (run_at s rs)) status s rs took b d
 lines_from_start status s rs took b c d left begins lines =
     let run = run_at s rs in
@@ -96,8 +99,8 @@ lines_from_start status s rs took b c d left begins lines =
       rs' = lines.rs';
       records = subst (λ (l : List (List ℕ)). AreFirstOf lines.rs' (told_from_start run l).run.history.records) input lines.records;
       goes =
-          subst (λ (l : List (List ℕ)). TextsGoPart (status ≡ 6) s rs lines.rs' (told_from_start run l).texts b d) input
-          (goes_then_part (status ≡ 6) s rs rs lines.rs' (first_texts run) told.texts b c d begins lines.goes);
+          subst (λ (l : List (List ℕ)). TextsGoPart (status ≡ 6) (form_under s) (seat_under s) rs lines.rs' (told_from_start run l).texts b d) input
+          (goes_then_part (status ≡ 6) (form_under s) (seat_under s) (seat_under s) rs rs lines.rs' (first_texts run) told.texts b c d begins lines.goes);
       whole =
           λ e.
           let all = lines.whole e in (
@@ -113,12 +116,13 @@ pub stops_at_start : (status : ℕ) (s : StoreNow) (rs : List Record) (b c : Wor
 stops_at_start status s rs b c not_done not_input not_long on_book says =
     let run = run_at s rs in
     let told = told_lines run (line_parts (b.left 0)) in
-    let waited : TextsGoPart (status ≡ 6) s rs rs (first_texts run) b c =
-    subst (λ (t : List Text). TextsGoPart (status ≡ 6) s rs rs t b c) (waits s rs on_book) (says_goes_part (status ≡ 6) s rs (texts_pending s) b c says) in
+    let waited : TextsGoPart (status ≡ 6) (form_under s) (seat_under s) rs rs (first_texts run) b c =
+    subst (λ (t : List Text). TextsGoPart (status ≡ 6) (form_under s) (seat_under s) rs rs t b c) (waits s rs on_book)
+    (says_goes_part (status ≡ 6) (form_under s) (seat_under s) rs (texts_pending s) b c says) in
     record {
       rs' = rs;
       records = subst (λ (l : List Record). AreFirstOf l told.run.history.records) (records_history rs) (records_first run (line_parts (b.left 0)));
-      goes = part_more (status ≡ 6) s rs rs (first_texts run) told.texts b c waited;
+      goes = part_more (status ≡ 6) (form_under s) (seat_under s) rs rs (first_texts run) told.texts b c waited;
       whole = λ e. absurd (not_done e);
       stopped = λ e. elim e [ inl at ↦ absurd (not_input at) | inr at ↦ absurd (not_long at) ];
     }

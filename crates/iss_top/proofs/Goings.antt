@@ -9,18 +9,16 @@ use Rattle.iss_edge.specs.declared.outside.Action.TheVariants.{Write, Sync, Emit
 use Rattle.iss_edge.specs.World.{World}
 use Rattle.iss_edge.specs.Stretches.{Step, actions_of, is_still, AreStill, with_levels}
 use Rattle.iss_edge.proofs.StretchLemmas.{actions_of-append, still_append, actions_of-leveled, sent_leveled}
-use Rattle.iss_journal.specs.Region.{Region}
+use Rattle.iss_halves.specs.Forms.{Form, Seat}
 use Rattle.iss_model.specs.declared.input.Record.{Record}
 use Rattle.iss_model.specs.run.Transcripts.{Text, at_level}
-use Rattle.iss_store.specs.Values.{StoreNow}
-use Rattle.iss_store.specs.Standing.{region_under}
-use Rattle.iss_store.specs.Goings.{channel_steps, StepsGo}
-use Rattle.iss_store.proofs.Goings as joins
+use Rattle.iss_standing.specs.Goings.{channel_steps, StepsGo}
+use Rattle.iss_standing.proofs.Goings as joins
 use Rattle.iss_texts.specs.Sending.{emits, FailsAt, GoOut, Says, SaysSome}
 use Rattle.iss_texts.proofs.Saying.{all_out}
 use Rattle.iss_top.specs.Dry.{each_bytes}
 use Rattle.iss_top.specs.Progress.{is_output}
-use Rattle.iss_top.specs.Replaying.{outputs_of, is_of_run, output_levels, levels_of, text_step, text_steps, step_levels, TextsGo, TextsGoPart}
+use Rattle.iss_top.specs.Replaying.{outputs_of, is_of_run, output_levels, levels_of, text_step, text_steps, step_levels, TextsGo, StepsGoOn, TextsGoPart}
 
 -- ---- texts as steps
 
@@ -45,10 +43,10 @@ bytes_at n (text ∷ texts) = ap (λ (l : List (List ℕ)). text ∷ l) (bytes_a
 
 -- ---- one after the other
 
-pub goes_then : (s : StoreNow) (rs rs' rs'' : List Record) (t u : List Text) (a b c : World) → TextsGo s rs rs' t a b → TextsGo s rs' rs'' u b c → TextsGo s rs rs'' (t ++ u) a c
-goes_then s rs rs' rs'' t u a b c f g =
-    subst (λ (l : List Step). StepsGo (region_under s) rs rs'' l a c) (sym (map-append text_step t u))
-    (joins.goes_then (region_under s) rs rs' rs'' (text_steps t) (text_steps u) a b c f g)
+pub goes_then : (form : Form) (x y z : Seat) (rs rs' rs'' : List Record) (t u : List Text) (a b c : World) → TextsGo form x y rs rs' t a b → TextsGo form y z rs' rs'' u b c → TextsGo form x z rs rs'' (t ++ u) a c
+goes_then form x y z rs rs' rs'' t u a b c f g =
+    subst (λ (l : List Step). StepsGo form x z rs rs'' l a c) (sym (map-append text_step t u))
+    (joins.goes_then form x y z rs rs' rs'' (text_steps t) (text_steps u) a b c f g)
 
 -- some of the texts that come after others went out, and those others did
 out_then : (xs ys : List (List ℕ)) (actions : List Action) → GoOut ys actions → GoOut (xs ++ ys) (emits xs ++ actions)
@@ -65,8 +63,9 @@ out_then xs ys actions out =
       ended = out.ended;
     }
 
-pub goes_then_part : (failed : Type 0) (s : StoreNow) (rs rs' rs'' : List Record) (t u : List Text) (a b c : World) → TextsGo s rs rs' t a b → TextsGoPart failed s rs' rs'' u b c → TextsGoPart failed s rs rs'' (t ++ u) a c
-goes_then_part failed s rs rs' rs'' t u a b c f g =
+pub goes_then_part : (failed : Type 0) (form : Form) (x y : Seat) (rs rs' rs'' : List Record) (t u : List Text) (a b c : World) → TextsGo form x y rs rs' t a b → TextsGoPart failed form y rs' rs'' u b c
+    → TextsGoPart failed form x rs rs'' (t ++ u) a c
+goes_then_part failed form x y rs rs' rs'' t u a b c f g =
     let said = text_steps t ++ g.said in
     let bytes : each_bytes (t ++ u) ≡ each_bytes t ++ each_bytes u = map-append (λ (text : Text). text.bytes) t u in
     let done : actions_of said ≡ emits (each_bytes t) ++ actions_of g.said =
@@ -86,19 +85,23 @@ goes_then_part failed s rs rs' rs'' t u a b c f g =
             ∙ sym (append_assoc (levels_of t) (step_levels g.said) g.levels.0)
             ∙ ap (λ (l : List ℕ). l ++ g.levels.0) levels,
       );
-      part = joins.goes_then_part (region_under s) rs rs' rs'' (text_steps t) g.said a b c f g.part;
-      whole = elim g.whole [ inl goes ↦ inl (joins.goes_then (region_under s) rs rs' rs'' (text_steps t) g.said a b c f goes) | inr fails ↦ inr fails ];
+      part = joins.goes_then_part form x y rs rs' rs'' (text_steps t) g.said a b c f g.part;
+      whole =
+          elim g.whole [
+            | inl on ↦ inl (record { to = on.to; goes = joins.goes_then form x y on.to rs rs' rs'' (text_steps t) g.said a b c f on.goes })
+            | inr fails ↦ inr fails
+          ];
     }
 
 -- what goes on is good
-pub goes_part : (failed : Type 0) (s : StoreNow) (rs rs' : List Record) (t : List Text) (a b : World) → TextsGo s rs rs' t a b → TextsGoPart failed s rs rs' t a b
-goes_part failed s rs rs' t a b f =
+pub goes_part : (failed : Type 0) (form : Form) (x y : Seat) (rs rs' : List Record) (t : List Text) (a b : World) → TextsGo form x y rs rs' t a b → TextsGoPart failed form x rs rs' t a b
+goes_part failed form x y rs rs' t a b f =
     record {
       said = text_steps t;
       out = subst (λ (l : List Action). GoOut (each_bytes t) l) (sym (text_actions t)) (all_out (each_bytes t));
       levels = ([], sym (text_levels t) ∙ sym (append-nil (step_levels (text_steps t))));
-      part = joins.goes_part (region_under s) rs rs' (text_steps t) a b f;
-      whole = inl f;
+      part = joins.goes_part form x y rs rs' (text_steps t) a b f;
+      whole = inl (record { to = y; goes = f });
     }
 
 -- ---- texts that are said when this many records stand
@@ -107,13 +110,13 @@ emits_still : (texts : List (List ℕ)) → AreStill (emits texts)
 emits_still [] = tt
 emits_still (text ∷ texts) = (refl, emits_still texts)
 
-pub says_goes : (s : StoreNow) (rs : List Record) (texts : List (List ℕ)) (a b : World) → Says texts a b → TextsGo s rs rs (at_level (length rs) texts) a b
-says_goes s rs texts a b says =
+pub says_goes : (form : Form) (x : Seat) (rs : List Record) (texts : List (List ℕ)) (a b : World) → Says texts a b → TextsGo form x x rs rs (at_level (length rs) texts) a b
+says_goes form x rs texts a b says =
     let n = length rs in
     let steps = with_levels n (emits texts) in
     let same : actions_of steps ≡ emits texts = actions_of-leveled n (emits texts) in
-    subst (λ (l : List Step). StepsGo (region_under s) rs rs l a b) (sym (steps_at n texts))
-    (joins.still_goes (region_under s) rs steps a b (subst AreStill (sym same) (emits_still texts)) (sent_leveled n (emits texts)) says.sends.device
+    subst (λ (l : List Step). StepsGo form x x rs rs l a b) (sym (steps_at n texts))
+    (joins.still_goes form x rs steps a b (subst AreStill (sym same) (emits_still texts)) (sent_leveled n (emits texts)) says.sends.device
     (says.sends.grew ∙ ap (λ (l : List Action). a.trace ++ l) (sym same)))
 
 -- ---- texts of which some were said
@@ -130,12 +133,12 @@ still_out texts actions out =
     subst AreStill (sym out.done) (still_append (emits out.whole) out.last (emits_still out.whole) (still_last out.rest out.last out.ended))
 
 -- what was said leaves the device as it was
-pub some_goes : (region : Region) (rs : List Record) (texts : List (List ℕ)) (a b : World) (says : SaysSome texts a b) → StepsGo region rs rs (with_levels (length rs) says.sends.actions) a b
-some_goes region rs texts a b says =
+pub some_goes : (form : Form) (x : Seat) (rs : List Record) (texts : List (List ℕ)) (a b : World) (says : SaysSome texts a b) → StepsGo form x x rs rs (with_levels (length rs) says.sends.actions) a b
+some_goes form x rs texts a b says =
     let n = length rs in
     let actions = says.sends.actions in
     let same : actions_of (with_levels n actions) ≡ actions = actions_of-leveled n actions in
-    joins.still_goes region rs (with_levels n actions) a b (subst AreStill (sym same) (still_out texts actions says.sends.out)) (sent_leveled n actions) says.sends.device
+    joins.still_goes form x rs (with_levels n actions) a b (subst AreStill (sym same) (still_out texts actions says.sends.out)) (sent_leveled n actions) says.sends.device
     (says.sends.grew ∙ ap (λ (l : List Action). a.trace ++ l) (sym same))
 
 -- the levels of the texts that went out come first among those of all
@@ -168,8 +171,8 @@ levels_out n texts actions out =
           ∙ ap (λ (l : List Action). step_levels (with_levels n l) ++ h.0) (sym out.done),
     )
 
-pub says_goes_part : (failed : Type 0) (s : StoreNow) (rs : List Record) (texts : List (List ℕ)) (a b : World) → SaysSome texts a b → TextsGoPart failed s rs rs (at_level (length rs) texts) a b
-says_goes_part failed s rs texts a b says =
+pub says_goes_part : (failed : Type 0) (form : Form) (x : Seat) (rs : List Record) (texts : List (List ℕ)) (a b : World) → SaysSome texts a b → TextsGoPart failed form x rs rs (at_level (length rs) texts) a b
+says_goes_part failed form x rs texts a b says =
     let n = length rs in
     let actions = says.sends.actions in
     let steps = with_levels n actions in
@@ -179,8 +182,8 @@ says_goes_part failed s rs texts a b says =
           subst (λ (l : List (List ℕ)). GoOut l (actions_of steps)) (sym (bytes_at n texts))
           (subst (λ (l : List Action). GoOut texts l) (sym (actions_of-leveled n actions)) says.sends.out);
       levels = levels_out n texts actions says.sends.out;
-      part = joins.goes_part (region_under s) rs rs steps a b (some_goes (region_under s) rs texts a b says);
-      whole = inl (some_goes (region_under s) rs texts a b says);
+      part = joins.goes_part form x x rs rs steps a b (some_goes form x rs texts a b says);
+      whole = inl (record { to = x; goes = some_goes form x rs texts a b says });
     }
 
 -- ---- texts after those of which some went out
@@ -208,8 +211,8 @@ out_more xs ys actions out =
       ended = elim out.ended [ inl none ↦ inl none | inr fails ↦ inr (fails_more out.rest ys out.last fails) ];
     }
 
-pub part_more : (failed : Type 0) (s : StoreNow) (rs rs' : List Record) (t u : List Text) (a b : World) → TextsGoPart failed s rs rs' t a b → TextsGoPart failed s rs rs' (t ++ u) a b
-part_more failed s rs rs' t u a b f =
+pub part_more : (failed : Type 0) (form : Form) (x : Seat) (rs rs' : List Record) (t u : List Text) (a b : World) → TextsGoPart failed form x rs rs' t a b → TextsGoPart failed form x rs rs' (t ++ u) a b
+part_more failed form x rs rs' t u a b f =
     record {
       said = f.said;
       out =
@@ -226,24 +229,24 @@ part_more failed s rs rs' t u a b f =
     }
 
 -- what failed may be told as something else
-pub part_fails : (failed other : Type 0) (s : StoreNow) (rs rs' : List Record) (t : List Text) (a b : World) → (failed → other) → TextsGoPart failed s rs rs' t a b → TextsGoPart other s rs rs' t a b
-part_fails failed other s rs rs' t a b so f =
+pub part_fails : (failed other : Type 0) (form : Form) (x : Seat) (rs rs' : List Record) (t : List Text) (a b : World) → (failed → other) → TextsGoPart failed form x rs rs' t a b → TextsGoPart other form x rs rs' t a b
+part_fails failed other form x rs rs' t a b so f =
     record { said = f.said; out = f.out; levels = f.levels; part = f.part; whole = elim f.whole [ inl goes ↦ inl goes | inr fails ↦ inr (so fails) ] }
 
 -- ---- nothing at all
 
-pub goes_nothing : (s : StoreNow) (rs : List Record) (a : World) → TextsGo s rs rs [] a a
-goes_nothing s rs a = joins.nothing_goes (region_under s) rs a
+pub goes_nothing : (form : Form) (x : Seat) (rs : List Record) (a : World) → TextsGo form x x rs rs [] a a
+goes_nothing form x rs a = joins.nothing_goes form x rs a
 
 -- whatever was to be said
-pub part_nothing : (failed : Type 0) (s : StoreNow) (rs : List Record) (t : List Text) (a : World) → TextsGoPart failed s rs rs t a a
-part_nothing failed s rs t a =
+pub part_nothing : (failed : Type 0) (form : Form) (x : Seat) (rs : List Record) (t : List Text) (a : World) → TextsGoPart failed form x rs rs t a a
+part_nothing failed form x rs t a =
     record {
       said = [];
       out = record { whole = []; rest = each_bytes t; cut = refl; last = []; done = refl; ended = inl refl };
       levels = (levels_of t, refl);
-      part = joins.goes_part (region_under s) rs rs [] a a (joins.nothing_goes (region_under s) rs a);
-      whole = inl (joins.nothing_goes (region_under s) rs a);
+      part = joins.goes_part form x x rs rs [] a a (joins.nothing_goes form x rs a);
+      whole = inl (record { to = x; goes = joins.nothing_goes form x rs a });
     }
 
 -- ---- what went out is what was done on channels
@@ -350,8 +353,8 @@ kinds_alone (action ∷ actions) sent =
     let p = and_parts (is_output action) (list_all is_output actions) sent in
     both_true (is_of_run action) (list_all is_of_run actions) (output_of_run action p.0) (kinds_alone actions p.1)
 
-module _ (s : StoreNow) (rs rs' : List Record) (texts : List Text) (a b : World) where
-  module _ (failed : Type 0) (p : TextsGoPart failed s rs rs' texts a b) where
+module _ (form : Form) (x : Seat) (rs rs' : List Record) (texts : List Text) (a b : World) where
+  module _ (failed : Type 0) (p : TextsGoPart failed form x rs rs' texts a b) where
     sends_said : AreOutputs (actions_of p.said)
     sends_said = out_sent (each_bytes texts) (actions_of p.said) p.out
 
@@ -371,8 +374,8 @@ module _ (s : StoreNow) (rs rs' : List Record) (texts : List Text) (a b : World)
     part_kinds =
         kinds_channels p.part.steps ∙ ap (λ (l : List Step). list_all is_of_run (actions_of l)) p.part.done ∙ kinds_alone (actions_of p.said) sends_said
 
-  pub goes_outputs : (f : TextsGo s rs rs' texts a b) → outputs_of (actions_of f.steps) ≡ emits (each_bytes texts)
-  goes_outputs f =
+  pub goes_outputs : (y : Seat) (f : TextsGo form x y rs rs' texts a b) → outputs_of (actions_of f.steps) ≡ emits (each_bytes texts)
+  goes_outputs y f =
       outputs_channels f.steps
       ∙ ap (λ (l : List Step). outputs_of (actions_of l)) f.done
       ∙ ap outputs_of (text_actions texts)

@@ -1,22 +1,26 @@
 -- A record is made to last, and then what it says goes out.
-use Rattle.std.proofs.Common.{◌≡◌, ℕ, List, [], length, map, Option, Ok, Err, inl, inr, refl, sym, ap, subst, ◌∙◌}
+use Rattle.std.proofs.Common.{◌≡◌, ℕ, Bool, true, false, cond, List, [], length, map, Option, Some, Ok, Err, inl, inr, refl, sym, ap, subst, ◌∙◌}
 use Rattle.std.specs.Prelude.{Result, IfErr}
 use Rattle.iss_edge.specs.World.{World, Told}
 use Rattle.iss_edge.proofs.Tolds.{told_map, told_then}
-use Rattle.iss_journal.specs.Place.{Place}
+use Rattle.iss_halves.specs.Forms.{Form, Seat, Layout, form_of, seat_at}
 use Rattle.iss_model.specs.declared.input.Record.{Record}
 use Rattle.iss_model.specs.rules.Histories.{history_of}
+use Rattle.iss_model.specs.run.Rooms.{room_left}
 use Rattle.iss_model.specs.run.Sayings.{Said}
 use Rattle.iss_model.specs.run.Transcripts.{Text, at_level, said_text_at}
 use Rattle.iss_agreement.proofs.Records.{records_history, step_records}
-use Rattle.iss_store.specs.Values.{StoreNow, Plan, DurableNow, said_of}
-use Rattle.iss_store.specs.Standing.{StandsFor}
-use Rattle.iss_store.specs.Goings.{AreFirstOf}
+use Rattle.iss_opening.specs.Values.{StoreNow, form_under, seat_under, room_of}
+use Rattle.iss_store.specs.Values.{Plan, DurableNow, said_of}
+use Rattle.iss_opening.specs.Standing.{StandsFor}
+use Rattle.iss_standing.specs.Goings.{AreFirstOf}
 use Rattle.iss_store.specs.declared.fault.StoreFault.{StoreFault}
 use Rattle.iss_store.specs.declared.fault.StoreFault.TheVariants as store_fault
+use Rattle.iss_store.specs.Planning.{turns_for, store_turned, store_for}
 use Rattle.iss_store.specs.Committing.{Commits, CommitsOnBook, Keeps, KeepsPart, WhereItLasts, said_on_book}
 use Rattle.iss_store.specs.Saying.{texts_of_record}
-use Rattle.iss_store.proofs.NextRecords.{with_record, first_self}
+use Rattle.iss_standing.proofs.NextRecords.{with_record}
+use Rattle.iss_standing.proofs.Bodies.{first_self}
 use Rattle.iss_texts.specs.Sending.{Says, SaysSome}
 use Rattle.iss_device.specs.Runs.{run_at}
 use Rattle.iss_top.specs.Dry.{each_bytes}
@@ -55,25 +59,51 @@ as_planned s s' p d rs F same said goes =
 -- what a commit ensures of the store after it
 pub record Committed (s : StoreNow) (p : Plan) (s' : StoreNow) (d : DurableNow) : Type 0 where
   pub commits : Commits s p s' d
-  pub on_book : (rs : List Record) → StandsFor s rs → CommitsOnBook s' rs p d
+  pub on_book : (rs : List Record) → StandsFor s rs → CommitsOnBook s s' rs p d
+
+-- ---- the device that a record's turn leaves
+
+-- a turn changes no form
+form_for_as : (turns : Bool) (s : StoreNow) → form_under (cond turns (store_turned s) s) ≡ form_under s
+form_for_as true s = refl
+form_for_as false s = refl
+
+form_kept : (s s' : StoreNow) (p : Plan) (d : DurableNow) → Commits s p s' d → form_under s' ≡ form_under s
+form_kept s s' p d commits = ap form_of commits.layout ∙ form_for_as (turns_for s p.accepted) s
+
+pub size_kept : (s s' : StoreNow) (p : Plan) (d : DurableNow) → Commits s p s' d → s'.layout.size ≡ s.layout.size
+size_kept s s' p d commits = ap (λ (form : Form). form.size) (form_kept s s' p d commits)
+
+seat_kept : (s s' : StoreNow) (p : Plan) (d : DurableNow) → Commits s p s' d → seat_under (store_for s p.accepted) ≡ seat_under s'
+seat_kept s s' p d commits = λ i. seat_at (sym (ap (λ (l : Layout). l.second) commits.layout) i) (sym commits.point i)
+
+-- what was kept reaches the seat of the store after it
+kept_goes : (s s' : StoreNow) (p : Plan) (d : DurableNow) (rs : List Record) (a b : World) → Commits s p s' d → Keeps s p.accepted a b → StandsFor s rs
+    → TextsGo (form_under s) (seat_under s) (seat_under s') rs (with_record rs p.accepted) [] a b
+kept_goes s s' p d rs a b commits keeps stands =
+    subst (λ (to : Seat). TextsGo (form_under s) (seat_under s) to rs (with_record rs p.accepted) [] a b) (seat_kept s s' p d commits) (keeps.goes rs stands)
 
 kept : (s s' : StoreNow) (p : Plan) (d : DurableNow) (a b c : World) → Committed s p s' d → Keeps s p.accepted a b → Says (texts_of_record s' d) b c → TakesAs (response_to_plan p) s s' a c
 kept s s' p d a b c done keeps says =
     record {
       left = says.left ∙ keeps.left;
-      same = record { instance = done.commits.stepped.kept; to = ap (λ (place : Place). place.to) done.commits.place };
+      same = record { instance = done.commits.stepped.kept; form = form_kept s s' p d done.commits };
       on_book = λ rs stands.
           let book = done.on_book rs stands in
-          let after = with_record rs p.accepted in (
-            subst (λ (l : List Record). StandsFor s' l) (sym (planned_records s p rs)) book.stands,
-            as_planned s s' p d rs (λ (l : List Record) (t : List Text). TextsGo s rs l t a c) done.commits.stepped.kept book.said
-                (goes_then s rs after after [] (at_level (length after) (texts_of_record s' d)) a b c
-                (keeps.goes rs stands) (says_goes s after (texts_of_record s' d) b c says)),
-          );
+          let after = with_record rs p.accepted in
+          record {
+            stands = subst (λ (l : List Record). StandsFor s' l) (sym (planned_records s p rs)) book.stands;
+            room = book.room ∙ ap (λ (l : List Record). room_left (room_of s) l (Some p.accepted)) (sym (records_history rs));
+            goes =
+                as_planned s s' p d rs (λ (l : List Record) (t : List Text). TextsGo (form_under s) (seat_under s) (seat_under s') rs l t a c) done.commits.stepped.kept book.said
+                (goes_then (form_under s) (seat_under s) (seat_under s') (seat_under s') rs after after [] (at_level (length after) (texts_of_record s' d)) a b c
+                (kept_goes s s' p d rs a b done.commits keeps stands) (says_goes (form_under s) (seat_under s') after (texts_of_record s' d) b c says));
+          };
     }
 
 -- a part of what is told of a plan, up to its record
-some_planned : (failed : Type 0) (s : StoreNow) (p : Plan) (rs : List Record) (a b : World) → TextsGoPart failed s rs (with_record rs p.accepted) (response_to_plan p (run_at s rs)).texts a b → GoesSome failed s rs (response_to_plan p (run_at s rs)) a b
+some_planned : (failed : Type 0) (s : StoreNow) (p : Plan) (rs : List Record) (a b : World) → TextsGoPart failed (form_under s) (seat_under s) rs (with_record rs p.accepted) (response_to_plan p (run_at s rs)).texts a b
+    → GoesSome failed (form_under s) (seat_under s) rs (response_to_plan p (run_at s rs)) a b
 some_planned failed s p rs a b part =
     record {
       rs' = with_record rs p.accepted;
@@ -89,9 +119,9 @@ kept_part failed s s' p d a b c done keeps says =
           let book = done.on_book rs stands in
           let after = with_record rs p.accepted in
           some_planned failed s p rs a c
-          (subst (λ (t : List Text). TextsGoPart failed s rs after t a c) (sym (planned_texts s s' p d rs done.commits.stepped.kept book.said))
-          (goes_then_part failed s rs after after [] (at_level (length after) (texts_of_record s' d)) a b c
-          (keeps.goes rs stands) (says_goes_part failed s after (texts_of_record s' d) b c says)));
+          (subst (λ (t : List Text). TextsGoPart failed (form_under s) (seat_under s) rs after t a c) (sym (planned_texts s s' p d rs done.commits.stepped.kept book.said))
+          (goes_then_part failed (form_under s) (seat_under s) (seat_under s') rs after after [] (at_level (length after) (texts_of_record s' d)) a b c
+          (kept_goes s s' p d rs a b done.commits keeps stands) (says_goes_part failed (form_under s) (seat_under s') after (texts_of_record s' d) b c says)));
     }
 
 not_kept : (failed : Type 0) (s : StoreNow) (p : Plan) (a b : World) → failed → KeepsPart s p.accepted a b → TakesPartAs failed (response_to_plan p) s a b
@@ -117,8 +147,8 @@ unsaid failed s p a b keeps =
       left = keeps.left;
       on_book = λ rs stands.
           some_planned failed s p rs a b
-          (part_more failed s rs (with_record rs p.accepted) [] (response_to_plan p (run_at s rs)).texts a b
-          (goes_part failed s rs (with_record rs p.accepted) [] a b (keeps.goes rs stands)));
+          (part_more failed (form_under s) (seat_under s) rs (with_record rs p.accepted) [] (response_to_plan p (run_at s rs)).texts a b
+          (goes_part failed (form_under s) (seat_under s) (seat_under (store_for s p.accepted)) rs (with_record rs p.accepted) [] a b (keeps.goes rs stands)));
     }
 
 -- ---- the same of what an edge tells

@@ -20,6 +20,7 @@ pub mod ToldLines
 pub mod OnTheWay
 pub mod Beginnings
 pub mod Moments
+pub mod Seats
 pub mod WholeRuns
 pub mod ToldWay
 pub mod ToldReplays

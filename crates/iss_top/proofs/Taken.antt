@@ -28,14 +28,16 @@ use Rattle.iss_agreement.proofs.Records.{records_history, step_records}
 use Rattle.iss_core.proofs.OnBook.{judged_on_book}
 use Rattle.iss_store.specs.declared.fault.PlanFault.{PlanFault}
 use Rattle.iss_store.specs.declared.fault.PlanFault.TheVariants as plan_fault
-use Rattle.iss_store.specs.Values.{StoreNow, Plan, room_of}
-use Rattle.iss_store.specs.Standing.{StandsFor}
+use Rattle.iss_halves.specs.Forms.{Form, Seat}
+use Rattle.iss_opening.specs.Values.{StoreNow, form_under, seat_under, room_of}
+use Rattle.iss_store.specs.Values.{Plan}
+use Rattle.iss_opening.specs.Standing.{StandsFor}
 use Rattle.iss_store.specs.Planning.{judged_as, Plans}
 use Rattle.iss_texts.specs.Sending.{Says, SaysSome}
 use Rattle.iss_device.specs.Runs.{run_at}
-use Rattle.iss_store.specs.Goings.{AreFirstOf}
-use Rattle.iss_top.specs.Replaying.{TextsGo, TextsGoPart, GoesSome, IsSameDevice, TakesAs, TakesPartAs, response_to_plan, texts_left}
-use Rattle.iss_store.proofs.NextRecords.{first_self}
+use Rattle.iss_standing.specs.Goings.{AreFirstOf}
+use Rattle.iss_top.specs.Replaying.{TextsGo, TextsGoPart, GoesSome, GoesAs, IsSameDevice, TakesAs, TakesPartAs, response_to_plan, texts_left}
+use Rattle.iss_standing.proofs.Bodies.{first_self}
 use Rattle.iss_top.proofs.Goings.{goes_then, goes_then_part, says_goes, says_goes_part, part_more, part_nothing}
 use Rattle.iss_top.proofs.Lasting.{planned_records}
 
@@ -79,14 +81,10 @@ within_new room rs (judged.Told a) r h = h
 -- ---- what a plan says of the judging
 
 plans_record : (j : Judged) (p : Plan) → Plans j (Ok p) → j ≡ judged_as p
-plans_record (judged.New r) p h = sym (ap judged_as h)
-plans_record (judged.Clock r) p h = sym (ap judged_as h)
-plans_record (judged.Told a) p h = absurd h
+plans_record j p h = sym h
 
 plans_told : (j : Judged) (a : Answer) → Plans j (Err (plan_fault.Told a)) → j ≡ judged.Told a
-plans_told (judged.New r) a h = absurd h
-plans_told (judged.Clock r) a h = absurd h
-plans_told (judged.Told b) a h = ap judged.Told (sym h)
+plans_told j a h = sym h
 
 -- what an input comes to on these records
 abbrev judged_on : StoreNow → Input → ℕ → List Record → Judged
@@ -149,24 +147,32 @@ abbrev pub told_input : Input → Option ℕ → Run → Response
 told_input i at = λ s. response s (sound i at)
 
 pub same_device : (s : StoreNow) → IsSameDevice s s
-same_device s = record { instance = refl; to = refl }
+same_device s = record { instance = refl; form = refl }
 
 -- if a run stands at these records, and something was said
 pub stays_and_says : (s : StoreNow) (rs : List Record) (texts : List (List ℕ)) (a b : World) → StandsFor s rs → Says texts a b
-    → StandsFor s (history_of rs).records × TextsGo s rs (history_of rs).records (at_level (length (history_of rs).records) texts) a b
+    → GoesAs (record { run = run_at s rs; texts = at_level (length (history_of rs).records) texts }) s s rs a b
 stays_and_says s rs texts a b stands says =
-    subst (λ (l : List Record). StandsFor s l × TextsGo s rs l (at_level (length l) texts) a b) (sym (records_history rs)) (stands, says_goes s rs texts a b says)
+    let form = form_under s in
+    let seat = seat_under s in
+    record {
+      stands = subst (λ (l : List Record). StandsFor s l) (sym (records_history rs)) stands;
+      room = refl;
+      goes =
+          subst (λ (l : List Record). TextsGo form seat seat rs l (at_level (length l) texts) a b) (sym (records_history rs))
+          (says_goes form seat rs texts a b says);
+    }
 
 -- some of what is said if no record is made
-pub says_in_part : (failed : Type 0) (s : StoreNow) (rs : List Record) (told : Response) (texts : List (List ℕ)) (a b : World) → AreFirstOf (history_of rs).records told.run.history.records
-    → told.texts ≡ at_level (length (history_of rs).records) texts → SaysSome texts a b → GoesSome failed s rs told a b
-says_in_part failed s rs told texts a b first is says =
+pub says_in_part : (failed : Type 0) (form : Form) (seat : Seat) (rs : List Record) (told : Response) (texts : List (List ℕ)) (a b : World) → AreFirstOf (history_of rs).records told.run.history.records
+    → told.texts ≡ at_level (length (history_of rs).records) texts → SaysSome texts a b → GoesSome failed form seat rs told a b
+says_in_part failed form seat rs told texts a b first is says =
     record {
       rs' = rs;
       records = subst (λ (l : List Record). AreFirstOf l told.run.history.records) (records_history rs) first;
       goes =
-          subst (λ (t : List Text). TextsGoPart failed s rs rs t a b) (ap (λ (l : List Record). at_level (length l) texts) (sym (records_history rs)) ∙ sym is)
-          (says_goes_part failed s rs texts a b says);
+          subst (λ (t : List Text). TextsGoPart failed form seat rs rs t a b) (ap (λ (l : List Record). at_level (length l) texts) (sym (records_history rs)) ∙ sym is)
+          (says_goes_part failed form seat rs texts a b says);
     }
 
 answer_takes : (s : StoreNow) (i : Input) (at : Option ℕ) (stamp : ℕ) (answer : Answer) (a b : World) → stamp ≡ unwrap_or at 0 → PlansOn s i stamp (Err (plan_fault.Told answer))
@@ -176,7 +182,7 @@ answer_takes s i at stamp answer a b is plans says =
       left = says.left;
       same = same_device s;
       on_book = λ rs stands.
-          subst (λ (r : Response). StandsFor s r.run.history.records × TextsGo s rs r.run.history.records r.texts a b)
+          subst (λ (r : Response). GoesAs r s s rs a b)
           (sym (response_is s i at stamp rs (judged.Told answer) is (plans_told (judged_on s i stamp rs) answer (plans rs stands))))
           (stays_and_says s rs (answer_text answer ∷ []) a b stands says);
     }
@@ -187,9 +193,9 @@ answer_takes_part failed s i at stamp answer a b is plans says =
     record {
       left = says.left;
       on_book = λ rs stands.
-          subst (λ (r : Response). GoesSome failed s rs r a b)
+          subst (λ (r : Response). GoesSome failed (form_under s) (seat_under s) rs r a b)
           (sym (response_is s i at stamp rs (judged.Told answer) is (plans_told (judged_on s i stamp rs) answer (plans rs stands))))
-          (says_in_part failed s rs (response_as (run_at s rs) i stamp (judged.Told answer)) (answer_text answer ∷ []) a b (first_self (history_of rs).records) refl says);
+          (says_in_part failed (form_under s) (seat_under s) rs (response_as (run_at s rs) i stamp (judged.Told answer)) (answer_text answer ∷ []) a b (first_self (history_of rs).records) refl says);
     }
 
 -- ---- a new one
@@ -210,7 +216,7 @@ new_takes s s' i at stamp p a b is new plans takes =
       left = takes.left;
       same = takes.same;
       on_book = λ rs stands.
-          subst (λ (r : Response). StandsFor s' r.run.history.records × TextsGo s rs r.run.history.records r.texts a b)
+          subst (λ (r : Response). GoesAs r s s' rs a b)
           (sym (planned_new s i at stamp p rs is new (plans rs stands))) (takes.on_book rs stands);
     }
 
@@ -254,12 +260,18 @@ clock_takes s s' i at stamp p a b c is clock plans takes says =
           let told = response_to_plan p (run_at s rs) in
           let after = told.run.history.records in
           let left = at_level (length after) (texts_left s' i stamp) in
-          subst (λ (r : Response). StandsFor s' r.run.history.records × TextsGo s rs r.run.history.records r.texts a c)
-          (sym (planned_clock s i at stamp p rs is clock (plans rs stands))) (
-            first.0,
-            subst (λ (t : List Text). TextsGo s rs after t a c) (sym (clock_texts s s' p i stamp rs clock takes.same first.0))
-                (goes_then s rs after after told.texts left a b c first.1 (says_goes s after (texts_left s' i stamp) b c says)),
-          );
+          let form = form_under s in
+          let from = seat_under s in
+          let to = seat_under s' in
+          subst (λ (r : Response). GoesAs r s s' rs a c)
+          (sym (planned_clock s i at stamp p rs is clock (plans rs stands)))
+          (record {
+            stands = first.stands;
+            room = first.room;
+            goes =
+                subst (λ (t : List Text). TextsGo form from to rs after t a c) (sym (clock_texts s s' p i stamp rs clock takes.same first.stands))
+                (goes_then form from to to rs after after told.texts left a b c first.goes (says_goes form to after (texts_left s' i stamp) b c says));
+          });
     }
 
 clock_takes_part : (failed : Type 0) (s s' : StoreNow) (i : Input) (at : Option ℕ) (stamp : ℕ) (p : Plan) (a b c : World) → stamp ≡ unwrap_or at 0 → p.is_clock ≡ true → PlansOn s i stamp (Ok p)
@@ -272,34 +284,37 @@ clock_takes_part failed s s' i at stamp p a b c is clock plans takes says =
           let told = response_to_plan p (run_at s rs) in
           let after = told.run.history.records in
           let left = at_level (length after) (texts_left s' i stamp) in
-          subst (λ (r : Response). GoesSome failed s rs r a c)
+          let form = form_under s in
+          let from = seat_under s in
+          let to = seat_under s' in
+          subst (λ (r : Response). GoesSome failed form from rs r a c)
           (sym (planned_clock s i at stamp p rs is clock (plans rs stands)))
           (record {
             rs' = after;
             records = first_self after;
             goes =
-                subst (λ (t : List Text). TextsGoPart failed s rs after t a c) (sym (clock_texts s s' p i stamp rs clock takes.same first.0))
-                (goes_then_part failed s rs after after told.texts left a b c first.1 (says_goes_part failed s after (texts_left s' i stamp) b c says));
+                subst (λ (t : List Text). TextsGoPart failed form from rs after t a c) (sym (clock_texts s s' p i stamp rs clock takes.same first.stands))
+                (goes_then_part failed form from to rs after after told.texts left a b c first.goes (says_goes_part failed form to after (texts_left s' i stamp) b c says));
           });
     }
 
 -- ---- a record that wasn't kept, or not all of which was said
 
 failed_on_book : (failed : Type 0) (clock : Bool) (s : StoreNow) (i : Input) (at : Option ℕ) (stamp : ℕ) (p : Plan) (rs : List Record) (a b : World) → p.is_clock ≡ clock → stamp ≡ unwrap_or at 0 → Plans (judged_on s i stamp rs) (Ok p)
-    → GoesSome failed s rs (response_to_plan p (run_at s rs)) a b → GoesSome failed s rs (told_input i at (run_at s rs)) a b
+    → GoesSome failed (form_under s) (seat_under s) rs (response_to_plan p (run_at s rs)) a b → GoesSome failed (form_under s) (seat_under s) rs (told_input i at (run_at s rs)) a b
 failed_on_book failed false s i at stamp p rs a b new is plans part =
-    subst (λ (r : Response). GoesSome failed s rs r a b) (sym (planned_new s i at stamp p rs is new plans)) part
+    subst (λ (r : Response). GoesSome failed (form_under s) (seat_under s) rs r a b) (sym (planned_new s i at stamp p rs is new plans)) part
 failed_on_book failed true s i at stamp p rs a b clock is plans part =
     let told = response_to_plan p (run_at s rs) in
     let after = told.run.history.records in
     let left = map (said_text_at s.core.instance) (answer_left (judge history_keeper told.run.history i stamp)) in
-    subst (λ (r : Response). GoesSome failed s rs r a b) (sym (planned_clock s i at stamp p rs is clock plans))
+    subst (λ (r : Response). GoesSome failed (form_under s) (seat_under s) rs r a b) (sym (planned_clock s i at stamp p rs is clock plans))
     (record {
       rs' = part.rs';
       records = part.records;
       goes =
-          subst (λ (t : List Text). TextsGoPart failed s rs part.rs' t a b) (sym (told_clock (run_at s rs) i stamp p clock))
-          (part_more failed s rs part.rs' told.texts (at_level (length after) left) a b part.goes);
+          subst (λ (t : List Text). TextsGoPart failed (form_under s) (seat_under s) rs part.rs' t a b) (sym (told_clock (run_at s rs) i stamp p clock))
+          (part_more failed (form_under s) (seat_under s) rs part.rs' told.texts (at_level (length after) left) a b part.goes);
     })
 
 failed_takes_part : (failed : Type 0) (s : StoreNow) (i : Input) (at : Option ℕ) (stamp : ℕ) (p : Plan) (a b : World) → stamp ≡ unwrap_or at 0 → PlansOn s i stamp (Ok p)
@@ -332,7 +347,7 @@ nothing_taken failed told s a keeps =
           record {
             rs' = rs;
             records = subst (λ (l : List Record). AreFirstOf l (told (run_at s rs)).run.history.records) (records_history rs) (keeps (run_at s rs));
-            goes = part_nothing failed s rs (told (run_at s rs)).texts a;
+            goes = part_nothing failed (form_under s) (seat_under s) rs (told (run_at s rs)).texts a;
           };
     }
 

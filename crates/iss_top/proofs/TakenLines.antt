@@ -12,15 +12,15 @@ use Rattle.iss_event.specs.declared.line.Mode.TheVariants.{Lines}
 use Rattle.iss_event.specs.declared.line.FormFault.{FormFault}
 use Rattle.iss_event.specs.Readings.{line_read}
 use Rattle.iss_event.specs.FormLines.{form_text}
-use Rattle.iss_store.specs.Values.{StoreNow}
-use Rattle.iss_store.specs.Standing.{StandsFor}
+use Rattle.iss_opening.specs.Values.{StoreNow, form_under, seat_under}
+use Rattle.iss_opening.specs.Standing.{StandsFor}
 use Rattle.iss_texts.specs.Sending.{Says, SaysSome}
 use Rattle.iss_device.specs.Runs.{run_at}
 use Rattle.iss_top.specs.Dry.{as_reading, reading_of}
 use Rattle.iss_top.specs.Lines.{is_blank}
-use Rattle.iss_store.specs.Goings.{AreFirstOf}
-use Rattle.iss_top.specs.Replaying.{told_line, TextsGo, GoesSome, TakesAs, TakesPartAs}
-use Rattle.iss_store.proofs.NextRecords.{first_self}
+use Rattle.iss_standing.specs.Goings.{AreFirstOf}
+use Rattle.iss_top.specs.Replaying.{told_line, TextsGo, GoesSome, GoesAs, TakesAs, TakesPartAs}
+use Rattle.iss_standing.proofs.Bodies.{first_self}
 use Rattle.iss_top.proofs.Goings.{goes_nothing}
 use Rattle.iss_top.proofs.Taken.{told_input, same_device, stays_and_says, says_in_part, response_first, KeepsRecords, nothing_taken}
 
@@ -39,7 +39,7 @@ takes_same f g s s' a b same takes =
       left = takes.left;
       same = takes.same;
       on_book = λ rs stands.
-          subst (λ (r : Response). StandsFor s' r.run.history.records × TextsGo s rs r.run.history.records r.texts a b)
+          subst (λ (r : Response). GoesAs r s s' rs a b)
           (sym (same (run_at s rs))) (takes.on_book rs stands);
     }
 
@@ -48,7 +48,7 @@ part_same failed f g s a b same part =
     record {
       left = part.left;
       on_book = λ rs stands.
-          subst (λ (r : Response). GoesSome failed s rs r a b) (sym (same (run_at s rs))) (part.on_book rs stands);
+          subst (λ (r : Response). GoesSome failed (form_under s) (seat_under s) rs r a b) (sym (same (run_at s rs))) (part.on_book rs stands);
     }
 
 -- ---- what a line is read as
@@ -79,7 +79,13 @@ blank_takes line s a blank =
       left = refl;
       same = same_device s;
       on_book = λ rs stands.
-          subst (λ (l : List Record). StandsFor s l × TextsGo s rs l [] a a) (sym (records_history rs)) (stands, goes_nothing s rs a);
+          record {
+            stands = subst (λ (l : List Record). StandsFor s l) (sym (records_history rs)) stands;
+            room = refl;
+            goes =
+                subst (λ (l : List Record). TextsGo (form_under s) (seat_under s) (seat_under s) rs l [] a a) (sym (records_history rs))
+                (goes_nothing (form_under s) (seat_under s) rs a);
+          };
     })
 
 fault_takes : (line : List ℕ) (fault : FormFault) (s : StoreNow) (a b : World) → is_blank line ≡ false → line_read Lines line ≡ Err fault → Says (form_text fault ∷ []) a b → TakesAs (line_told line) s s a b
@@ -97,7 +103,7 @@ fault_takes_part failed line fault s a b written read says =
     (record {
       left = says.left;
       on_book = λ rs stands.
-          says_in_part failed s rs (response (run_at s rs) (faulty (form_text fault))) (form_text fault ∷ []) a b (first_self (history_of rs).records) refl says;
+          says_in_part failed (form_under s) (seat_under s) rs (response (run_at s rs) (faulty (form_text fault))) (form_text fault ∷ []) a b (first_self (history_of rs).records) refl says;
     })
 
 line_keeps : (line : List ℕ) (blank : Bool) → is_blank line ≡ blank → KeepsRecords (line_told line)

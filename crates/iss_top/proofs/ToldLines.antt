@@ -2,18 +2,17 @@
 use Rattle.std.proofs.Common.{◌≡◌, ℕ, Bool, true, false, cond, not, List, [], ◌∷◌, ◌++◌, map, filter, Some, refl, sym, ap, ◌∙◌, append-nil, append_assoc}
 use Rattle.iss_model.specs.declared.input.Record.{Record}
 use Rattle.iss_model.specs.rules.Histories.{history_of}
-use Rattle.iss_model.specs.run.Rooms.{one_journal}
 use Rattle.iss_model.specs.run.Transcripts.{Reading, Text}
 use Rattle.iss_model.specs.run.Runs.{Run, Response, response, line_texts, run_after, accepted_records, first_texts, transcript_of}
 use Rattle.iss_agreement.proofs.Records.{records_history}
 use Rattle.iss_agreement.proofs.RunLaws.{records_after}
-use Rattle.iss_store.specs.Values.{StoreNow}
-use Rattle.iss_device.specs.Runs.{run_at, run_on}
+use Rattle.iss_opening.specs.Values.{StoreNow, room_of}
+use Rattle.iss_device.specs.Runs.{run_at}
 use Rattle.iss_top.specs.Lines.{is_blank}
 use Rattle.iss_top.specs.Dry.{reading_of}
-use Rattle.iss_store.specs.Goings.{AreFirstOf}
+use Rattle.iss_standing.specs.Goings.{AreFirstOf}
 use Rattle.iss_top.specs.Replaying.{told_line, told_lines, then_told, IsSameDevice}
-use Rattle.iss_top.proofs.Continues.{run_left}
+use Rattle.iss_top.proofs.Continues.{kept_instance, same_run, history_left}
 
 -- ---- in a row
 
@@ -94,22 +93,18 @@ first_parts s parts later =
           };
     }
 
--- a store on the same device that stands for the records which then stand is where the run is
-pub run_then : (opened s : StoreNow) (rs : List Record) (parts : List (List ℕ)) → IsSameDevice opened s
+-- a store on the same device that stands for the records which then stand, in the room that is left, is where the run is
+pub run_then : (opened s : StoreNow) (rs : List Record) (parts : List (List ℕ)) → IsSameDevice opened s → room_of s ≡ (told_lines (run_at opened rs) parts).run.room
     → run_at s (told_lines (run_at opened rs) parts).run.history.records ≡ (told_lines (run_at opened rs) parts).run
-run_then opened s rs parts same =
-    let now = told_lines (run_at opened rs) parts in
-    let made = accepted_records (run_at opened rs) (readings_of parts) in
-    let is : now.run ≡ run_on opened.core.instance opened.place.to (rs ++ made) =
-    ap (λ (r : Response). r.run) (told_readings (run_at opened rs) parts) ∙ run_left opened.core.instance opened.place.to rs (readings_of parts) in
-    let records : now.run.history.records ≡ rs ++ made =
-    ap (λ (r : Run). r.history.records) is ∙ records_history (rs ++ made) in
-    ap (λ (l : List Record). run_at s l) records
-    ∙ same_place (rs ++ made)
-    ∙ sym is
-  where
-    same_place : (all : List Record) → run_at s all ≡ run_on opened.core.instance opened.place.to all
-    same_place all = λ i. record { instance = same.instance i; room = Some (one_journal (same.to i)); history = history_of all }
+run_then opened s rs parts same room =
+    let run = run_at opened rs in
+    let now = told_lines run parts in
+    let made = accepted_records run (readings_of parts) in
+    let is : now.run ≡ run_after run (readings_of parts) = ap (λ (r : Response). r.run) (told_readings run parts) in
+    let records : now.run.history.records ≡ rs ++ made = told_records run parts ∙ ap (λ (l : List Record). l ++ made) (records_history rs) in
+    same_run (run_at s now.run.history.records) now.run
+    (same.instance ∙ sym (kept_instance run (readings_of parts)) ∙ sym (ap (λ (k : Run). k.instance) is)) room
+    (ap history_of records ∙ sym (history_left opened.core.instance (room_of opened) rs (readings_of parts)) ∙ sym (ap (λ (k : Run). k.history) is))
 
 -- ---- with the texts with which a run begins
 

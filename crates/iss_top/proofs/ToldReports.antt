@@ -5,12 +5,12 @@ use Rattle.iss_edge.specs.World.{World, Told, Faults, Later}
 use Rattle.iss_edge.proofs.Tolds.{told_map, later_then, rose_later}
 use Rattle.iss_model.specs.declared.input.Record.{Record}
 use Rattle.iss_core.specs.Values.{CoreStandsFor}
-use Rattle.iss_store.specs.declared.fault.OpenFault.{OpenFault}
-use Rattle.iss_store.specs.declared.fault.OpenFault.TheVariants.{Disk, NotFormatted, BadRecord, BadSpelling, BadHistory, OutOfMemory}
-use Rattle.iss_store.specs.Values.{StoreNow}
-use Rattle.iss_store.specs.Opening.{Opens, OpensGood, OpenCause, OpenedAs, ReadsAlone, OnRefused}
-use Rattle.iss_store.proofs.GoodDevices.{good_device}
-use Rattle.iss_store.proofs.ToldReadings.{told_both}
+use Rattle.iss_opening.specs.declared.fault.OpenFault.{OpenFault}
+use Rattle.iss_opening.specs.declared.fault.OpenFault.TheVariants.{Disk, NotFormatted, BadRecord, BadSpelling, BadHistory, BadImage, OutOfMemory}
+use Rattle.iss_opening.specs.Values.{StoreNow}
+use Rattle.iss_opening.specs.Opening.{Opens, OpensGood, OpenCause, OpenedAs, ReadsAlone, OnRefused}
+use Rattle.iss_opening.proofs.GoodDevices.{good_device}
+use Rattle.iss_opening.proofs.Telling.{told_both}
 use Rattle.iss_texts.specs.declared.row.Texts.{Texts}
 use Rattle.iss_texts.specs.TextRows.{HasAll}
 use Rattle.iss_texts.specs.Sending.{Says, SaysSome, IsSending}
@@ -29,10 +29,10 @@ use Rattle.iss_top.proofs.ReportRuns.{unopened_report_on, unopened_report_moment
 -- ---- the device didn't open
 
 unopened_report : (fault : OpenFault) (a b : World) → Opens (Err fault) a b → OpensGood a b → ReadsUnless fault a b → ReportRun (ends_with (stop_of_opening fault)) a b
-unopened_report fault a b opens good reads instance rs stands =
+unopened_report fault a b opens good reads form seat rs stands =
     let n = ends_with (stop_of_opening fault) in
-    let ends : (n ≡ 6) ⊎ (n ≡ 7) = opening_ends fault (good_device instance rs fault a b stands opens) in
-    unopened_report_on n instance rs a b (not_this n 0 ends (omega arith)) (not_this n 4 ends (omega arith)) (not_this n 5 ends (omega arith)) good reads
+    let ends : (n ≡ 6) ⊎ (n ≡ 7) = opening_ends fault (good_device form seat rs fault a b stands opens) in
+    unopened_report_on n form seat rs a b (not_this n 0 ends (omega arith)) (not_this n 4 ends (omega arith)) (not_this n 5 ends (omega arith)) good reads
 
 pub told_unopened_report : (fault : OpenFault) (x y : Option World) → Told (Opens (Err fault)) x y → Told OpensGood x y → OnRefused {T = StoreNow} (Err fault) (Told ReadsAlone x y)
     → Told (ReportRun (ends_with (stop_of_opening fault))) x y
@@ -42,7 +42,7 @@ told_unopened_report fault x y opens good reads =
 
 pub told_unopened_report_moments : (x y : Option World) → Told OpensGood x y → Told ReportMomentStands x y
 told_unopened_report_moments x y good =
-    told_map OpensGood ReportMomentStands x y (λ a b g instance rs stands. unopened_report_moments instance rs a b g stands) good
+    told_map OpensGood ReportMomentStands x y (λ a b g form seat rs stands. unopened_report_moments form seat rs a b g stands) good
 
 -- ---- what went out of these texts, which are the report of whatever records the core stands for
 
@@ -72,14 +72,14 @@ module _ (s : StoreNow) (x y z : Option World) (opened : Told (OpenedAs s) x y) 
   some_report : (status : ℕ) → (status ≡ 0 → ⊥) → (status ≡ 4 → ⊥) → Told (SaysReport SaysSome s) y z → Told (ReportRun status) x z
   some_report status not_done not_device says =
       told_map (Behind s (SaysReport SaysSome s)) (ReportRun status) x z
-      (λ a d p instance rs stands.
-      part_on instance rs s a p.between d p.opening stands status not_done not_device (p.later rs (stands_opened instance rs s a p.between p.opening stands).stands.core))
+      (λ a d p form seat rs stands.
+      part_on form seat rs s a p.between d p.opening stands status not_done not_device (p.later rs (stands_opened form seat rs s a p.between p.opening stands).stands.core))
       (told_behind s (SaysReport SaysSome s) x y z opened says)
 
   some_moments : Told (SaysReport SaysSome s) y z → Told ReportMomentStands x z
   some_moments says =
       told_map (Behind s (SaysReport SaysSome s)) ReportMomentStands x z
-      (λ a d p instance rs stands. part_moments instance rs s a p.between d p.opening stands (p.later rs (stands_opened instance rs s a p.between p.opening stands).stands.core))
+      (λ a d p form seat rs stands. part_moments form seat rs s a p.between d p.opening stands (p.later rs (stands_opened form seat rs s a p.between p.opening stands).stands.core))
       (told_behind s (SaysReport SaysSome s) x y z opened says)
 
   any_refuses : (status : ℕ) (R : World → World → Type 0) → (status ≡ 4 → ⊥) → Told R y z → Told (RefusesExactly status) x z
@@ -106,14 +106,14 @@ module _ (s : StoreNow) (x y z : Option World) (opened : Told (OpenedAs s) x y) 
       pub told_report : Told (ReportRun 0) x z
       told_report =
           told_map (Behind s (SaysReport Says s)) (ReportRun 0) x z
-          (λ a d p instance rs stands.
-          whole_on instance rs s a p.between d p.opening stands 0 (λ e. cc) (p.later rs (stands_opened instance rs s a p.between p.opening stands).stands.core))
+          (λ a d p form seat rs stands.
+          whole_on form seat rs s a p.between d p.opening stands 0 (λ e. cc) (p.later rs (stands_opened form seat rs s a p.between p.opening stands).stands.core))
           (told_behind s (SaysReport Says s) x y z opened whole_report)
 
       pub told_report_moments : Told ReportMomentStands x z
       told_report_moments =
           told_map (Behind s (SaysReport Says s)) ReportMomentStands x z
-          (λ a d p instance rs stands. whole_moments instance rs s a p.between d p.opening stands (p.later rs (stands_opened instance rs s a p.between p.opening stands).stands.core))
+          (λ a d p form seat rs stands. whole_moments form seat rs s a p.between d p.opening stands (p.later rs (stands_opened form seat rs s a p.between p.opening stands).stands.core))
           (told_behind s (SaysReport Says s) x y z opened whole_report)
 
       pub told_report_refuses : Told (RefusesExactly 0) x z
@@ -143,6 +143,7 @@ report_unopened NotFormatted before now cause = record { later = cause.later; ca
 report_unopened (BadRecord gate) before now cause = record { later = cause.later; cause = tt }
 report_unopened (BadSpelling gate) before now cause = record { later = cause.later; cause = tt }
 report_unopened (BadHistory gate) before now cause = record { later = cause.later; cause = tt }
+report_unopened (BadImage place) before now cause = record { later = cause.later; cause = tt }
 
 pub report_unmade : (before now : Faults) → Later before now → IsReportCaused {A = Unit {0}} before now (Err stop.Memory)
 report_unmade before now later = record { later = later; cause = tt }
@@ -160,13 +161,13 @@ report_done before middle now v first sending = record { later = later_then befo
 -- ---- the end
 
 report_ends_well : (result : Result (Unit {0}) Stop) (before now : Faults) (a b : World) → IsReportCaused before now result → ReportRun (stop_status result) a b → ReportEndsWell before now (stop_status result) a b
-report_ends_well (Ok done) before now a b caused run instance rs stands disk output = inl refl
-report_ends_well (Err stop.Input) before now a b caused run instance rs stands disk output = absurd caused.cause
-report_ends_well (Err stop.Device) before now a b caused run instance rs stands disk output = absurd ((run instance rs stands).other_device refl)
-report_ends_well (Err stop.Output) before now a b caused run instance rs stands disk output = absurd (output caused.cause)
-report_ends_well (Err stop.Disk) before now a b caused run instance rs stands disk output = absurd (disk caused.cause)
-report_ends_well (Err stop.Memory) before now a b caused run instance rs stands disk output = inr refl
-report_ends_well (Err stop.InputLong) before now a b caused run instance rs stands disk output = absurd caused.cause
+report_ends_well (Ok done) before now a b caused run form seat rs stands disk output = inl refl
+report_ends_well (Err stop.Input) before now a b caused run form seat rs stands disk output = absurd caused.cause
+report_ends_well (Err stop.Device) before now a b caused run form seat rs stands disk output = absurd ((run form seat rs stands).other_device refl)
+report_ends_well (Err stop.Output) before now a b caused run form seat rs stands disk output = absurd (output caused.cause)
+report_ends_well (Err stop.Disk) before now a b caused run form seat rs stands disk output = absurd (disk caused.cause)
+report_ends_well (Err stop.Memory) before now a b caused run form seat rs stands disk output = inr refl
+report_ends_well (Err stop.InputLong) before now a b caused run form seat rs stands disk output = absurd caused.cause
 
 pub told_report_ends_well : (result : Result (Unit {0}) Stop) (before now : Faults) (x y : Option World) → IsReportCaused before now result → Told (ReportRun (stop_status result)) x y → Told (ReportEndsWell before now (stop_status result)) x y
 told_report_ends_well result before now x y caused run =

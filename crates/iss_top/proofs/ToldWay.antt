@@ -3,7 +3,7 @@ use Rattle.std.proofs.Common.{◌≡◌, ℕ, ◌≤◌, true, false, List, Opti
 use Rattle.iss_edge.specs.World.{World, Told, Faults}
 use Rattle.iss_edge.proofs.Tolds.{told_then, told_self}
 use Rattle.iss_model.specs.declared.limits.TheConstants.{MOST_INPUT}
-use Rattle.iss_store.specs.Values.{StoreNow}
+use Rattle.iss_opening.specs.Values.{StoreNow}
 use Rattle.iss_top.specs.declared.stop.Stop.{Stop}
 use Rattle.iss_top.specs.declared.stop.Stop.TheVariants as stop
 use Rattle.iss_top.specs.Reader.{ReaderNow, fresh_reader, ReadsOn, ReadsPart, ReadsNoPart, ReadingCause}

@@ -42,15 +42,15 @@ pub record DryDone (before now : Faults) (x y : Option World) (status : ℕ) : T
 -- What a run with this status did that took lines on a device.
 pub record ReplayDone (before now : Faults) (x y : Option World) (status : ℕ) : Type 0 where
   -- On a device that stood for records, it wrote the transcript of the lines on them, or a prefix of it. At 0, 3 and 8 the device stands
-  -- for those records and the ones that the lines made.
+  -- for those records and the ones that the lines made, at the seat of the room that is left.
   pub output : Told (ReplayRun status) x y
   -- If the device stood firmly, and no write on it was left failed, a stop leaves the old records and a prefix of the accepted inputs. That
   -- prefix holds every input of which a byte went out. Within the opening a record that was left behind may stand too.
   pub moments : Told EveryMomentStands x y
   -- A second run on the device continues the first. Two inputs in a row are told what the first is told, and then what the second is told on
-  -- the records left. The second's is without the texts with which a run begins.
+  -- the records and in the room left. The second's is without the texts with which a run begins.
   pub continues : TranscriptsContinue
-  -- If the device stood for no records, the status is 4, 6 or 7. If it stood for records, the status isn't 4.
+  -- If no store can be opened on the device, the status is 4, 6 or 7. Else the status isn't 4.
   pub refused : Told (RefusesExactly status) x y
   -- If the outside isn't at fault, the input isn't too long and the device stood for records, it came to its end, or an allocation failed.
   pub complete : Told (ReplayEndsWell before now status) x y
@@ -61,7 +61,7 @@ pub record ReportDone (before now : Faults) (x y : Option World) (status : ℕ) 
   pub output : Told (ReportRun status) x y
   -- As for lines on a device, a stop leaves the records that stood. Within the opening one that was left behind may stand too.
   pub moments : Told ReportMomentStands x y
-  -- If the device stood for no records, the status is 4, 6 or 7. If it stood for records, the status isn't 4.
+  -- If no store can be opened on the device, the status is 4, 6 or 7. Else the status isn't 4.
   pub refused : Told (RefusesExactly status) x y
   -- if the outside isn't at fault and the device stood for records, it came to its end, or an allocation failed
   pub complete : Told (ReportEndsWell before now status) x y
@@ -71,7 +71,7 @@ pub record ServeDone (turns : ℕ) (before now : Faults) (x y : Option World) (h
   -- What was heard and done is what the session of the device's records says, or a first part of it. What a stop leaves is as for lines on
   -- a device. At 0 no wait failed.
   pub session : Told (ServeRun turns status) (outer_of x h) (outer_of y k)
-  -- If the device stood for no records, the status is 4, 6 or 7. If it stood for records, the status isn't 4.
+  -- If no store can be opened on the device, the status is 4, 6 or 7. Else the status isn't 4.
   pub refused : Told (RefusesExactly status) x y
   -- if device and input aren't at fault and the device stood for records, it came to its end, or an allocation failed
   pub complete : Told (ServeEndsWell before now status) x y
@@ -88,7 +88,7 @@ pub record FormatDone {E : Type 0} (size instance extent : ℕ) (a b : E) (befor
   -- the status is 4 exactly if the device has another size, and then the outside is as it was
   pub other_size : (status ≡ BAD_DEVICE) ↔ (extent ≡ size → ⊥)
   pub unwritten : status ≡ BAD_DEVICE → b ≡ a
-  -- At 0 the device has the instance and stands for no records. At every status it says what a stop leaves. If the size is right and the
+  -- At 0 the device is in halves, has the instance and stands for no records. At every status it says what a stop leaves. If the size is right and the
   -- disk isn't at fault, the status is 0.
   pub formatting : FormatRun size instance extent status before now x y
 

@@ -15,9 +15,13 @@ use Rattle.iss_model.specs.run.Rooms.{room_left}
 use Rattle.iss_model.specs.run.Runs.{Run, Response, response}
 use Rattle.iss_model.specs.run.Sayings.{reaction_to_record, said_of_time, answer_left}
 use Rattle.iss_model.specs.run.Transcripts.{Text, at_level, said_text_at, sound}
-use Rattle.iss_store.specs.Values.{StoreNow, Plan}
-use Rattle.iss_store.specs.Standing.{StandsFor, AreHistory, region_under}
-use Rattle.iss_store.specs.Goings.{AreFirstOf, StepsGo, StepsGoPart}
+use Rattle.iss_halves.specs.Forms.{Form, Seat}
+use Rattle.iss_standing.specs.Standing.{AreHistory}
+use Rattle.iss_standing.specs.Rooms.{room_in}
+use Rattle.iss_standing.specs.Goings.{AreFirstOf, StepsGo, StepsGoPart}
+use Rattle.iss_opening.specs.Values.{StoreNow, form_under, seat_under, room_of}
+use Rattle.iss_opening.specs.Standing.{StandsFor}
+use Rattle.iss_store.specs.Values.{Plan}
 use Rattle.iss_texts.specs.Sending.{GoOut}
 use Rattle.iss_device.specs.Runs.{run_at}
 use Rattle.iss_top.specs.declared.stop.Stop.{Stop}
@@ -72,43 +76,52 @@ text_steps texts = map text_step texts
 abbrev pub step_levels : List Step → List ℕ
 step_levels steps = map (λ step. step.level) steps
 
--- From these records of a store up to those, each of these texts went out by an emit of its own at its level. Nothing else was done but
+-- From these records and this seat up to those, each of these texts went out by an emit of its own at its level. Nothing else was done but
 -- on the device.
-abbrev pub TextsGo : StoreNow → List Record → List Record → List Text → World → World → Type 0
-TextsGo s rs rs' texts a b = StepsGo (region_under s) rs rs' (text_steps texts) a b
+abbrev pub TextsGo : Form → Seat → Seat → List Record → List Record → List Text → World → World → Type 0
+TextsGo form from to rs rs' texts a b = StepsGo form from to rs rs' (text_steps texts) a b
+
+-- from this seat to some seat just these steps were done on channels
+pub record StepsGoOn (form : Form) (from : Seat) (rs rs' : List Record) (said : List Step) (a b : World) : Type 0 where
+  pub to : Seat
+  pub goes : StepsGo form from to rs rs' said a b
 
 -- Some of these texts went out, of the last one maybe a prefix, and the run ended. It might have gone on from there,
 -- unless this failed.
-pub record TextsGoPart (failed : Type 0) (s : StoreNow) (rs rs' : List Record) (texts : List Text) (a b : World) : Type 0 where
+pub record TextsGoPart (failed : Type 0) (form : Form) (from : Seat) (rs rs' : List Record) (texts : List Text) (a b : World) : Type 0 where
   pub said : List Step
   pub out : GoOut (each_bytes texts) (actions_of said)
   pub levels : (later : List ℕ) × (levels_of texts ≡ step_levels said ++ later)
-  pub part : StepsGoPart (region_under s) rs rs' said a b
-  pub whole : StepsGo (region_under s) rs rs' said a b ⊎ failed
+  pub part : StepsGoPart form from rs rs' said a b
+  pub whole : StepsGoOn form from rs rs' said a b ⊎ failed
 
 -- some of what is told was done, up to some first ones of the records that it makes
-pub record GoesSome (failed : Type 0) (s : StoreNow) (rs : List Record) (told : Response) (a b : World) : Type 0 where
+pub record GoesSome (failed : Type 0) (form : Form) (from : Seat) (rs : List Record) (told : Response) (a b : World) : Type 0 where
   pub rs' : List Record
   pub records : AreFirstOf rs' told.run.history.records
-  pub goes : TextsGoPart failed s rs rs' told.texts a b
+  pub goes : TextsGoPart failed form from rs rs' told.texts a b
 
--- some of what lines in a row are told was done, up to some first ones of their records
-abbrev pub GoesFor : StoreNow → List Record → List (List ℕ) → World → World → Type 0
-GoesFor s rs lines a b = TextsGo s rs (told_lines (run_at s rs) lines).run.history.records (told_lines (run_at s rs) lines).texts a b
+-- all of what is told was done, from these records and this seat up to its records and that seat
+abbrev pub GoesTo : Form → Seat → Seat → List Record → Response → World → World → Type 0
+GoesTo form from to rs told a b = TextsGo form from to rs told.run.history.records told.texts a b
 
--- the device, its instance and its size are the same
+-- the device, its instance and its form are the same
 pub record IsSameDevice (s s' : StoreNow) : Type 0 where
   pub instance : s'.core.instance ≡ s.core.instance
-  pub to : s'.place.to ≡ s.place.to
+  pub form : form_under s' ≡ form_under s
+
+-- The store went on to one that stands for the records which this says, in the room which it says. All that it says was done.
+pub record GoesAs (told : Response) (s s' : StoreNow) (rs : List Record) (a b : World) : Type 0 where
+  pub stands : StandsFor s' told.run.history.records
+  pub room : room_of s' ≡ told.run.room
+  pub goes : GoesTo (form_under s) (seat_under s) (seat_under s') rs told a b
 
 -- An input was taken: whatever records the store stood for, what was done for it is what this says of a run that stands at them, and the
--- store stands for what then stands.
+-- store stands for what then stands, in the room that is left.
 pub record TakesAs (told : Run → Response) (s s' : StoreNow) (a b : World) : Type 0 where
   pub left : b.left ≡ a.left
   pub same : IsSameDevice s s'
-  pub on_book : (rs : List Record) → StandsFor s rs
-      → StandsFor s' (told (run_at s rs)).run.history.records
-      × TextsGo s rs (told (run_at s rs)).run.history.records (told (run_at s rs)).texts a b
+  pub on_book : (rs : List Record) → StandsFor s rs → GoesAs (told (run_at s rs)) s s' rs a b
 
 -- a call on the device ended it
 abbrev pub IsOfDisk : Stop → Type 0
@@ -122,7 +135,7 @@ IsOfDisk stop.InputLong = ⊥
 -- An input was taken in part, and the run might have gone on from there, unless this failed.
 pub record TakesPartAs (failed : Type 0) (told : Run → Response) (s : StoreNow) (a b : World) : Type 0 where
   pub left : b.left ≡ a.left
-  pub on_book : (rs : List Record) → StandsFor s rs → GoesSome failed s rs (told (run_at s rs)) a b
+  pub on_book : (rs : List Record) → StandsFor s rs → GoesSome failed (form_under s) (seat_under s) rs (told (run_at s rs)) a b
 
 -- If the call succeeded, an input was taken as this says, and the store went on to the result.
 abbrev pub TakesTo : {E F : Type 0} → (E → Option World) → E → E → (Run → Response) → StoreNow → Result StoreNow F → Type 0
@@ -157,12 +170,14 @@ pub record IsReplaying (opened s : StoreNow) (now : ReaderNow) (a b : World) : T
   pub parts : List (List ℕ)
   pub read : HasRead parts now a b
   pub same : IsSameDevice opened s
-  pub on_book : (rs : List Record) → StandsFor opened rs
-      → StandsFor s (told_lines (run_at opened rs) parts).run.history.records × GoesFor opened rs parts a b
+  pub on_book : (rs : List Record) → StandsFor opened rs → GoesAs (told_lines (run_at opened rs) parts) opened s rs a b
 
--- All that this says was done, from these records of a store on, and the records that then stand are a history.
+-- All that this says was done, from these records of a store up to the seat of the room that it says. The records that then stand are a
+-- history.
 pub record GoesWhole (s : StoreNow) (rs : List Record) (told : Response) (a b : World) : Type 0 where
-  pub goes : TextsGo s rs told.run.history.records told.texts a b
+  pub to : Seat
+  pub room : Some (room_in (form_under s) to) ≡ told.run.room
+  pub goes : GoesTo (form_under s) (seat_under s) to rs told a b
   pub history : AreHistory told.run.history.records
 
 -- What a run with this status did on a store that stood for these records, if this is what the parts of the input are told. What went out is a
@@ -172,7 +187,7 @@ pub record GoesWhole (s : StoreNow) (rs : List Record) (told : Response) (a b : 
 pub record RunsAs (tell : List (List ℕ) → Response) (status : ℕ) (opened : StoreNow) (rs : List Record) (took : List ℕ) (a b : World) : Type 0 where
   pub rs' : List Record
   pub records : AreFirstOf rs' (tell (line_parts (a.left 0))).run.history.records
-  pub goes : TextsGoPart (status ≡ DISK_FAULT) opened rs rs' (tell (line_parts (a.left 0))).texts a b
+  pub goes : TextsGoPart (status ≡ DISK_FAULT) (form_under opened) (seat_under opened) rs rs' (tell (line_parts (a.left 0))).texts a b
   pub whole : status ≡ DONE → (b.left 0 ≡ []) × GoesWhole opened rs (tell (line_parts (a.left 0))) a b
   pub stopped : (status ≡ INPUT_FAULT) ⊎ (status ≡ INPUT_TOO_LONG) → GoesWhole opened rs (tell (all_but_last (line_parts (take MOST_INPUT took)))) a b
 

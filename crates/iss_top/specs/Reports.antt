@@ -7,8 +7,9 @@ use Rattle.iss_model.specs.declared.input.Record.{Record}
 use Rattle.iss_model.specs.rules.Histories.{history_of}
 use Rattle.iss_model.specs.run.Transcripts.{Text, at_level}
 use Rattle.iss_model.specs.texts.BalanceLines.{balance_lines}
-use Rattle.iss_store.specs.Standing.{DeviceStandsFor}
-use Rattle.iss_store.specs.Opening.{AreOnDevice, ReadsAlone}
+use Rattle.iss_halves.specs.Forms.{Form, Seat}
+use Rattle.iss_standing.specs.Standing.{DeviceStandsFor}
+use Rattle.iss_opening.specs.Opening.{AreOnDevice, ReadsAlone}
 use Rattle.iss_texts.specs.Sending.{emits, GoOut}
 use Rattle.iss_device.specs.Moments.{EndsAtRest}
 use Rattle.iss_top.specs.declared.stop.Stop.{Stop}
@@ -27,7 +28,7 @@ report_texts rs = at_level (length rs) (report_lines rs)
 -- the device alone. Then the lines of the report went out, each by an emit of its own, and at 0 all of them. If the run ended early, the
 -- first of them did, and maybe a prefix of the next. At 0, and if the output failed, the device stands for the records. Then, if the run
 -- began at rest, the next one begins there. The same holds at 7, unless nothing was done but maybe a sync.
-pub record ReportOn (status : ℕ) (instance : ℕ) (rs : List Record) (a b : World) : Type 0 where
+pub record ReportOn (status : ℕ) (form : Form) (seat : Seat) (rs : List Record) (a b : World) : Type 0 where
   pub left : b.left ≡ a.left
   pub opening : List Action
   pub sent : List Action
@@ -35,19 +36,19 @@ pub record ReportOn (status : ℕ) (instance : ℕ) (rs : List Record) (a b : Wo
   pub on_device : AreOnDevice opening
   pub out : GoOut (report_lines rs) sent
   pub whole : status ≡ DONE → sent ≡ emits (report_lines rs)
-  pub stands : (status ≡ DONE) ⊎ (status ≡ OUTPUT_FAULT) → DeviceStandsFor instance rs b.device
-  pub ends : (status ≡ DONE) ⊎ (status ≡ OUTPUT_FAULT) → EndsAtRest instance rs rs (opening ++ sent) a b
-  pub ended : status ≡ OUT_OF_MEMORY → ReadsAlone a b ⊎ EndsAtRest instance rs rs (opening ++ sent) a b
+  pub stands : (status ≡ DONE) ⊎ (status ≡ OUTPUT_FAULT) → DeviceStandsFor form seat rs b.device
+  pub ends : (status ≡ DONE) ⊎ (status ≡ OUTPUT_FAULT) → EndsAtRest form rs rs (opening ++ sent) a b
+  pub ended : status ≡ OUT_OF_MEMORY → ReadsAlone a b ⊎ EndsAtRest form rs rs (opening ++ sent) a b
   pub other_device : status ≡ BAD_DEVICE → ⊥
 
 -- whichever records the device stands for, if any
 abbrev pub ReportRun : ℕ → World → World → Type 0
-ReportRun status a b = (instance : ℕ) (rs : List Record) → DeviceStandsFor instance rs a.device → ReportOn status instance rs a b
+ReportRun status a b = (form : Form) (seat : Seat) (rs : List Record) → DeviceStandsFor form seat rs a.device → ReportOn status form seat rs a b
 
 -- at every moment the device stands for the records that stood, and for no more but one that was left behind at the start
 abbrev pub ReportMomentStands : World → World → Type 0
 ReportMomentStands a b =
-    (instance : ℕ) (rs : List Record) → DeviceStandsFor instance rs a.device → MomentsOf instance rs rs (report_texts rs) a b
+    (form : Form) (seat : Seat) (rs : List Record) → DeviceStandsFor form seat rs a.device → MomentsOf form rs rs (report_texts rs) a b
 
 -- why a report may end early: the device, an emit or an allocation failed, or the device stands for no records
 abbrev pub ReportCause : Faults → Faults → Stop → Type 0
@@ -66,6 +67,6 @@ pub record IsReportCaused {A : Type 0} (before now : Faults) (result : Result A 
 -- if no count on the device or output rose, and the device stands for records, the status is 0 or 7
 abbrev pub ReportEndsWell : Faults → Faults → ℕ → World → World → Type 0
 ReportEndsWell before now status a b =
-    (instance : ℕ) (rs : List Record) → DeviceStandsFor instance rs a.device
+    (form : Form) (seat : Seat) (rs : List Record) → DeviceStandsFor form seat rs a.device
     → (Rose before.disk now.disk → ⊥) → (Rose before.output now.output → ⊥)
     → (status ≡ DONE) ⊎ (status ≡ OUT_OF_MEMORY)

@@ -1,8 +1,8 @@
 -- The exit status of a run.
 use Rattle.std.specs.Prelude.{ℕ, List, [], ◌∷◌, Result, Ok, Err}
 use Rattle.iss_edge.specs.declared.status.TheConstants.{DONE, INPUT_FAULT, BAD_DEVICE, OUTPUT_FAULT, DISK_FAULT, OUT_OF_MEMORY, INPUT_TOO_LONG}
-use Rattle.iss_store.specs.declared.fault.OpenFault.{OpenFault}
-use Rattle.iss_store.specs.declared.fault.OpenFault.TheVariants as open_fault
+use Rattle.iss_opening.specs.declared.fault.OpenFault.{OpenFault}
+use Rattle.iss_opening.specs.declared.fault.OpenFault.TheVariants as open_fault
 use Rattle.iss_store.specs.declared.fault.StoreFault.{StoreFault}
 use Rattle.iss_store.specs.declared.fault.StoreFault.TheVariants as store_fault
 use Rattle.iss_top.specs.declared.stop.Stop.{Stop}
@@ -49,6 +49,7 @@ stop_of_opening open_fault.NotFormatted = Device
 stop_of_opening (open_fault.BadRecord gate) = Device
 stop_of_opening (open_fault.BadSpelling gate) = Device
 stop_of_opening (open_fault.BadHistory gate) = Device
+stop_of_opening (open_fault.BadImage place) = Device
 stop_of_opening open_fault.OutOfMemory = Memory
 
 -- what ends a run whose store fails so

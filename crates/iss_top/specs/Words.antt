@@ -3,7 +3,8 @@ use Rattle.std.specs.Prelude.{ℕ, ◌<◌, ◌≤◌, Bool, not, ◌&&◌, ◌=
 use Rattle.std.specs.Str.{bytes_eq}
 use Rattle.iss_edge.specs.declared.status.TheConstants.{USAGE}
 use Rattle.iss_amount.specs.Digits.{number_in}
-use Rattle.iss_journal.specs.declared.layout.TheConstants.{HEADER_INSTANCES, LEAST_SIZE, GREATEST_SIZE}
+use Rattle.iss_journal.specs.declared.layout.TheConstants.{HEADER_INSTANCES, GREATEST_SIZE}
+use Rattle.iss_halves.specs.declared.layout.TheConstants.{LEAST_HALVES_SIZE}
 use Rattle.iss_drill.specs.declared.limits.TheConstants.{MOST_EVENTS}
 use Rattle.iss_top.specs.declared.words.TheConstants.{LONGEST_NAME, GREATEST_INSTANCE, GREATEST_PORT, MOST_TURNS}
 use Rattle.iss_top.specs.declared.words.Command.{Command}
@@ -40,11 +41,11 @@ serve_of None gateway turns = None
 abbrev pub dry_command : List ℕ → Option Command
 dry_command name = if bytes_eq name (codes "dry") then Some Dry else None
 
--- `format DEVICE SIZE INSTANCE`, with a size of 17 to 4294967296 and an instance below 2^48
+-- `format DEVICE SIZE INSTANCE`, with a size of 27 to 4294967296 and an instance below 2^48
 abbrev pub format_command : List ℕ → List ℕ → List ℕ → List ℕ → Option Command
 format_command name device size instance =
     if bytes_eq name (codes "format") && is_device device
-    then format_of (number_in LEAST_SIZE GREATEST_SIZE size) (number_in 0 GREATEST_INSTANCE instance)
+    then format_of (number_in LEAST_HALVES_SIZE GREATEST_SIZE size) (number_in 0 GREATEST_INSTANCE instance)
     else None
 
 -- `replay DEVICE`, `balances DEVICE`, and `drill N` with an N of 1 to 100000
@@ -79,7 +80,7 @@ abbrev pub IsInRange : Command → Type 0
 IsInRange Dry = Unit {0}
 IsInRange Replay = Unit {0}
 IsInRange Balances = Unit {0}
-IsInRange (Format size instance) = (LEAST_SIZE ≤ size) × (size ≤ GREATEST_SIZE) × (instance < HEADER_INSTANCES)
+IsInRange (Format size instance) = (LEAST_HALVES_SIZE ≤ size) × (size ≤ GREATEST_SIZE) × (instance < HEADER_INSTANCES)
 IsInRange (Serve port gateway turns) =
     ((1 ≤ port) × (port ≤ GREATEST_PORT)) × ((1 ≤ gateway) × (gateway ≤ GREATEST_PORT)) × ((1 ≤ turns) × (turns ≤ MOST_TURNS))
 IsInRange (Drill n) = (1 ≤ n) × (n ≤ MOST_EVENTS)

@@ -17,8 +17,8 @@ use std::alloc::Global;
 /// Does all that the program does, by the words after the program's name, and returns the exit status.
 ///
 /// The one word `dry` reads event lines from channel 0 to its end, and writes what they are told. These are lines of JSON
-/// (RFC 8259), each by one emit. `format DEVICE SIZE INSTANCE` makes the device, of SIZE bytes, one of this instance that
-/// stands for no records. `replay DEVICE` opens the device, writes the requests and notices that still wait for the
+/// (RFC 8259), each by one emit. `format DEVICE SIZE INSTANCE` makes the device, of SIZE bytes, one in halves of this
+/// instance that stands for no records. `replay DEVICE` opens the device, writes the requests and notices that still wait for the
 /// gateway, and then takes event lines as `dry` does. What a line makes lasts on the device before any of its texts goes
 /// out. `balances DEVICE` opens the device and writes what stands on it. Each account that money was moved to or from has
 /// its balance, and a user's also what is held of it. A line of counts comes last. `serve DEVICE PORT GATEWAYPORT TURNS`
@@ -27,8 +27,8 @@ use std::alloc::Global;
 /// memory, and writes a line of what they came to.
 ///
 /// The status is 0 for a run that came to its end, and 2 for words that are no command. It is 3 if the input or a wait
-/// failed, and 4 if the device has another size or stands for no records. It is 5 if the output failed, 6 if a call on
-/// the device failed, and 7 if an allocation failed. It is 8 if the input has more than 4294967296 bytes.
+/// failed, and 4 if the device has another size or no store can be opened on it. It is 5 if the output failed, 6 if a call
+/// on the device failed, and 7 if an allocation failed. It is 8 if the input has more than 4294967296 bytes.
 #[tactic(auto, using(crate::proofs::RunBytes::told_run, crate::proofs::RunBytes::told_emits, crate::proofs::RunBytes::told_stops, crate::proofs::Commands::told_ends_well, crate::proofs::ToldReplays::told_replay_ends_well, crate::proofs::ToldReports::told_report_ends_well, crate::proofs::Continues::transcripts_continue))]
 pub fn run<E: Edge>(alloc: Global, words: &[String], edge: &mut E) -> u8
     // The status is one of those that the words may have. It is 2 exactly if they are no command, and then nothing is done.
@@ -43,7 +43,7 @@ pub fn run<E: Edge>(alloc: Global, words: &[String], edge: &mut E) -> u8
     // On a device that stands for records, a run writes the transcript of the lines on them, or a prefix of it. At 0, 3 and
     // 8 the device then stands for those records and the ones that the lines made. A stop leaves the old records and a
     // prefix of the accepted inputs, which holds every input of which a byte went out. A second run continues the first.
-    // The status is 4 only if the device stands for no records. If neither the outside nor the input's length ends it, it
+    // The status is 4 only if no store can be opened on the device. If neither the outside nor the input's length ends it, it
     // comes to its end, or an allocation fails.
     ensures replay { OnReplay (command_in words.now) (ReplayDoneOn E.faults E.told edge.old edge.new result) }
 
@@ -59,8 +59,8 @@ pub fn run<E: Edge>(alloc: Global, words: &[String], edge: &mut E) -> u8
     // A drill writes its line by one emit, or a prefix of it, and does nothing else.
     ensures drill { OnDrill (command_in words.now) (λ n. DrillDoneOn E.faults E.told edge.old edge.new n result) }
 
-    // Formatting ends with 4 exactly if the device has another size, and then nothing is done. At 0 the device has the
-    // instance and stands for no records. At every status it says what a stop leaves.
+    // Formatting ends with 4 exactly if the device has another size, and then nothing is done. At 0 the device is in halves,
+    // has the instance and stands for no records. At every status it says what a stop leaves.
     ensures format { OnFormat (command_in words.now) (λ size instance.
         FormatDoneOn E.extent E.faults E.told edge.old edge.new size instance result) }
 {

@@ -30,7 +30,7 @@ pub(crate) fn replay<E: Edge>(alloc: Global, edge: &mut E) -> Result<(), Stop>
 
 /// Takes the lines of the input to its end.
 fn take_lines<E: Edge>(alloc: Global, opened: Store, edge: &mut E) -> Result<(), Stop>
-    requires size { E.extent edge.old ≡ opened.place.to }
+    requires size { E.extent edge.old ≡ opened.layout.size }
     ensures ran { Told (RunsFrom (stop_status result) opened) (E.told edge.old) (E.told edge.new) }
     ensures caused { IsReplayCaused (E.faults edge.old) (E.faults edge.new) result }
     ensures no_device { stop_status result ≡ BAD_DEVICE → ⊥ }

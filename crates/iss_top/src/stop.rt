@@ -6,14 +6,15 @@ ghost use Rattle.iss_top.specs.Statuses.{stop_status, stop_of_opening, stop_of_s
 use iss_edge::status::{
     BAD_DEVICE, DISK_FAULT, DONE, INPUT_FAULT, INPUT_TOO_LONG, OUT_OF_MEMORY, OUTPUT_FAULT,
 };
-use iss_store::{OpenFault, StoreFault};
+use iss_opening::OpenFault;
+use iss_store::StoreFault;
 use std::alloc::AllocError;
 
 #[derive(Clone, Copy)]
 pub(crate) enum Stop {
     /// A take of the input failed.
     Input,
-    /// The device doesn't stand for records.
+    /// No store can be opened on the device.
     Device,
     /// An emit failed.
     Output,
@@ -43,7 +44,8 @@ impl From<OpenFault> for Stop {
             OpenFault::NotFormatted
             | OpenFault::BadRecord(_)
             | OpenFault::BadSpelling(_)
-            | OpenFault::BadHistory(_) => Stop::Device,
+            | OpenFault::BadHistory(_)
+            | OpenFault::BadImage(_) => Stop::Device,
         }
     }
 }

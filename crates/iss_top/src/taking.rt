@@ -27,13 +27,13 @@ pub(crate) fn take_line<E: Edge>(
     routes: &mut Routes,
     edge: &mut E,
 ) -> Result<Store, Stop>
-    requires size { E.extent edge.old ≡ store.place.to }
+    requires size { E.extent edge.old ≡ store.layout.size }
     requires lines { IsLines routes.old }
     ensures taken { TakesTo E.told edge.old edge.new (λ s. told_line s line.now) store result }
     ensures part { TakesInPart E.told edge.old edge.new (λ s. told_line s line.now) store result }
     ensures taking { IsTaking (E.faults edge.old) (E.faults edge.new) result }
     ensures kept { Stays E.extent edge.old edge.new }
-    ensures size { IfOk result (λ next. next.place.to ≡ store.place.to) }
+    ensures size { IfOk result (λ next. next.layout.size ≡ store.layout.size) }
     ensures lines { IsLines routes.new }
 {
     if is_blank(line) {
@@ -68,12 +68,12 @@ fn tell_fault<E: Edge>(texts: &mut Texts, fault: &FormFault, edge: &mut E) -> Re
 /// Takes the input of a line at its stamp. If it makes a record, that lasts first; else the input is told why.
 fn take_input<E: Edge>(
     alloc: Global,
-    store: Store,
+    mut store: Store,
     said: &Line,
     routes: &mut Routes,
     edge: &mut E,
 ) -> Result<Store, Stop>
-    requires size { E.extent edge.old ≡ store.place.to }
+    requires size { E.extent edge.old ≡ store.layout.size }
     requires lines { IsLines routes.old }
     requires input_form { IsTrue (is_in_form said.now.input) }
     requires stamp_form { IsTrue (is_stamp_or_none said.now.at) }
@@ -81,7 +81,7 @@ fn take_input<E: Edge>(
     ensures part { TakesInPart E.told edge.old edge.new (response_to_line said.now.input said.now.at) store result }
     ensures taking { IsTaking (E.faults edge.old) (E.faults edge.new) result }
     ensures kept { Stays E.extent edge.old edge.new }
-    ensures size { IfOk result (λ next. next.place.to ≡ store.place.to) }
+    ensures size { IfOk result (λ next. next.layout.size ≡ store.layout.size) }
     ensures lines { IsLines routes.new }
 {
     let at = said.at.unwrap_or(0);
@@ -111,14 +111,14 @@ fn keep<E: Edge>(
     routes: &mut Routes,
     edge: &mut E,
 ) -> Result<Store, Stop>
-    requires size { E.extent edge.old ≡ store.place.to }
+    requires size { E.extent edge.old ≡ store.layout.size }
     requires lines { IsLines routes.old }
     requires plan { IsPlanOf store planned }
     ensures taken { TakesTo E.told edge.old edge.new (response_to_plan planned) store result }
     ensures part { TakesInPart E.told edge.old edge.new (response_to_plan planned) store result }
     ensures taking { IsTaking (E.faults edge.old) (E.faults edge.new) result }
     ensures kept { Stays E.extent edge.old edge.new }
-    ensures size { IfOk result (λ next. next.place.to ≡ store.place.to) }
+    ensures size { IfOk result (λ next. next.layout.size ≡ store.layout.size) }
     ensures lines { IsLines routes.new }
 {
     let (next, durable) = store.commit(alloc, edge, planned)?;

@@ -6,7 +6,8 @@ ghost use Rattle.iss_top.specs.Words.{is_device, dry_command, two_word_command, 
 
 use iss_amount::number_in;
 use iss_drill::limits::MOST_EVENTS;
-use iss_journal::layout::{GREATEST_SIZE, HEADER_INSTANCES, LEAST_SIZE};
+use iss_halves::layout::LEAST_HALVES_SIZE;
+use iss_journal::layout::{GREATEST_SIZE, HEADER_INSTANCES};
 
 /// The most bytes that the name of a device has.
 const LONGEST_NAME: usize = 4096;
@@ -25,7 +26,8 @@ const MOST_TURNS: u64 = 4_294_967_295;
 pub enum Command {
     /// `dry`: lines get their replies, with no device.
     Dry,
-    /// `format DEVICE SIZE INSTANCE`: the device of SIZE bytes is made one of this instance that stands for no records.
+    /// `format DEVICE SIZE INSTANCE`: the device of SIZE bytes is made one in halves of this instance that stands for no
+    /// records.
     Format { size: u64, instance: u64 },
     /// `replay DEVICE`: lines get their replies, and what they make lasts on the device.
     Replay,
@@ -45,7 +47,7 @@ pub struct Usage;
 /// What the words after the program's name ask for.
 ///
 /// A number is decimal digits without a sign, and without a leading zero but in `0` itself. DEVICE has 1 to 4096 bytes
-/// and doesn't begin with `-`, SIZE is 17 to 4294967296, INSTANCE is 0 to 281474976710655, PORT and GATEWAYPORT are 1 to
+/// and doesn't begin with `-`, SIZE is 27 to 4294967296, INSTANCE is 0 to 281474976710655, PORT and GATEWAYPORT are 1 to
 /// 65535, TURNS is 1 to 4294967295, and N is 1 to 100000.
 pub fn command_of(words: &[String]) -> Result<Command, Usage>
     ensures said { result_ok result ≡ command_in words.now }
@@ -121,7 +123,7 @@ fn format_said(name: &str, device: &[u8], size: &[u8], instance: &[u8]) -> Optio
     if name != "format" || !is_device(device) {
         return None;
     }
-    let size = number_in(LEAST_SIZE, GREATEST_SIZE, size)?;
+    let size = number_in(LEAST_HALVES_SIZE, GREATEST_SIZE, size)?;
     let instance = number_in(0, GREATEST_INSTANCE, instance)?;
     Some(Command::Format { size, instance })
 }

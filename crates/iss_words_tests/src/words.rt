@@ -6,7 +6,7 @@ use std::alloc::{AllocError, Global};
 use std::test::Fail;
 
 /// The words of a run, the program's name first, and whether they are a command.
-const LISTS: [(&[&str], bool); 15] = [
+const LISTS: [(&[&str], bool); 16] = [
     (&["issuer"], false),
     (&["issuer", "pay"], false),
     (&["issuer", "replay"], false),
@@ -17,7 +17,8 @@ const LISTS: [(&[&str], bool); 15] = [
     (&["issuer", "drill", "100001"], false),
     (&["issuer", "dry", "-x"], false),
     (&["issuer", "dry"], true),
-    (&["issuer", "format", "d", "17", "281474976710655"], true),
+    (&["issuer", "format", "d", "26", "0"], false),
+    (&["issuer", "format", "d", "27", "281474976710655"], true),
     (&["issuer", "replay", "d"], true),
     (&["issuer", "balances", "d"], true),
     (&["issuer", "serve", "d", "1", "65535", "4294967295"], true),
@@ -49,7 +50,7 @@ fn commands(alloc: Global) -> Result<Command<'static>, AllocError> {
 fn format(alloc: Global) -> Result<Command<'static>, AllocError> {
     Command::new(alloc, "format")
         .arg(argument(alloc, "device"))?
-        .arg(number(alloc, "size", 17, 4_294_967_297))?
+        .arg(number(alloc, "size", 27, 4_294_967_297))?
         .arg(number(alloc, "instance", 0, 281_474_976_710_656))
 }
 

@@ -9,7 +9,7 @@ pub returns-in-Ok-release-clause-keeps : goal.returns-in-Ok-release-clause-keeps
 returns-in-Ok-release-clause-keeps g c =
     λ run at.
     kept c.args.store c.in-Ok.next c.args.planned c.in-Ok.durable run c.args.tally.now c.count.new.self c.call_opened-opened.result
-    c.in-Ok.ensures.on_book c.in-Ok.ensures.committed
+    c.in-Ok.ensures.on_book
     (subst (λ (es : List Entry). Counts es c.args.tally.now c.count.new.self) c.entries.ensures.value c.count.ensures)
     (c.call_opened-opened.ensures ∙ ap (λ (es : List Entry). call_opened es) c.entries-2.ensures.value) at
 

@@ -14,7 +14,7 @@ pub returns : goal.returns
 returns c =
     let n = c.args.n in
     let start : HasGiven (drill_run n) [] c.new-tally.result c.in_ok-fresh.fresh =
-    subst (λ (t : Tally). HasGiven (drill_run n) [] t c.in_ok-fresh.fresh) (sym c.new-tally.ensures) (begun n c.in_ok-fresh.fresh c.in_ok-fresh.ensures.stands c.in_ok-fresh.ensures.size) in
+    subst (λ (t : Tally). HasGiven (drill_run n) [] t c.in_ok-fresh.fresh) (sym c.new-tally.ensures) (begun n c.in_ok-fresh.fresh c.in_ok-fresh.ensures.opened c.in_ok-fresh.ensures.size) in
     let given = c.in_ok-store.ensures.given (c.in_ok-ready.ensures.given (drill_run n) start) in
     let totals = subst (λ (core : CoreNow). IsTotals (core_facts core.state) c.give_events.new.tally c.taken_together-totals.result) c.core.ensures c.taken_together-totals.ensures in
     IfOk-weaker c.drill_line.result _ _
@@ -25,7 +25,7 @@ pub taken_together-totals-requires : goal.taken_together-totals-requires
 taken_together-totals-requires c =
     let n = c.args.n in
     let start : HasGiven (drill_run n) [] c.new-tally.result c.in_ok-fresh.fresh =
-    subst (λ (t : Tally). HasGiven (drill_run n) [] t c.in_ok-fresh.fresh) (sym c.new-tally.ensures) (begun n c.in_ok-fresh.fresh c.in_ok-fresh.ensures.stands c.in_ok-fresh.ensures.size) in
+    subst (λ (t : Tally). HasGiven (drill_run n) [] t c.in_ok-fresh.fresh) (sym c.new-tally.ensures) (begun n c.in_ok-fresh.fresh c.in_ok-fresh.ensures.opened c.in_ok-fresh.ensures.size) in
     let given = c.in_ok-store.ensures.given (c.in_ok-ready.ensures.given (drill_run n) start) in
     subst (λ (core : CoreNow). HoldsAreFew core.state) (sym c.core.ensures)
     (holds_are_few (drill_run n) (drill_lines n) n c.give_events.new.tally c.in_ok-store.store refl c.requires.most c.in_ok-store.ensures.lines given)

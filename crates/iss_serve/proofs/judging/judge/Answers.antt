@@ -47,7 +47,7 @@ again-preserved g c =
           (subst (λ (b : Bool). Told (ServesOn (to_judge c.again.next (seen_held c.again.held) (q ∷ rest)) (to_judge c.in_ok-after.after (seen_held c.judge_once.new.held) (judged_again b q rest))) (outer_of (g.E.Edge.told c.again.edge) (g.E.Edge.heard c.again.edge)) (outer_of (g.E.Edge.told c.judge_once.new.edge) (g.E.Edge.heard c.judge_once.new.edge)))
           c.if-not-more.false (c.in_ok-after.ensures.judged rest));
       judges = judges_then c.args.store c.again.next c.in_ok-after.after c.args.held.now c.again.held c.judge_once.new.held c.again.invariant.judges c.in_ok-after.ensures.judges;
-      size = c.judge_once.ensures.kept ∙ c.again.invariant.size ∙ sym c.in_ok-after.ensures.judges.to;
+      size = c.judge_once.ensures.kept ∙ c.again.invariant.size ∙ sym c.in_ok-after.ensures.judges.size;
       alone = λ told. c.again.invariant.alone (c.judge_once.ensures.alone told);
       later = later_then _ _ _ c.again.invariant.later c.judge_once.ensures.caused.later;
       kept = c.judge_once.ensures.kept ∙ c.again.invariant.kept;

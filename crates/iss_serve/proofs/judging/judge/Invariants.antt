@@ -13,7 +13,7 @@ invariant-again g l = record {
   judged : (rest : List Queued) → Told (ServesOn (to_judge l.initial.next (seen_held l.initial.held) (queued_as l.queued ∷ rest)) (to_judge l.next (seen_held l.held) (queued_as l.queued ∷ rest)))
       (outer_of (g.E.Edge.told l.initial.edge) (g.E.Edge.heard l.initial.edge)) (outer_of (g.E.Edge.told l.edge) (g.E.Edge.heard l.edge));
   judges : Judges l.initial.next l.next l.initial.held l.held;
-  size : g.E.Edge.extent l.edge ≡ l.next.place.to;
+  size : g.E.Edge.extent l.edge ≡ l.next.layout.size;
   alone : StillTold g.E.Edge.told l.initial.edge l.edge;
   later : Later (g.E.Edge.faults l.initial.edge) (g.E.Edge.faults l.edge);
   kept : g.E.Edge.extent l.edge ≡ g.E.Edge.extent l.initial.edge;

@@ -4,7 +4,7 @@ use Rattle.iss_edge.specs.World.{Told}
 use Rattle.iss_edge.proofs.Tolds.{later_self, later_then}
 use Rattle.iss_model.specs.declared.call.CallId.{CallId}
 use Rattle.iss_session.specs.Sessions.{Queued}
-use Rattle.iss_store.specs.Numbers.{is_from_one}
+use Rattle.iss_opening.specs.Numbers.{is_from_one}
 use Rattle.iss_serve.specs.Causes.{IsOfDisk}
 use Rattle.iss_serve.specs.Held.{seen_held, queued_as, to_judge, answers_unreached}
 use Rattle.iss_serve.specs.Runs.{ServesOn}
@@ -57,7 +57,7 @@ loop-call-preserved g c =
           told_on_then first (to_judge c.loop-call.next (seen_held c.loop-call.held) (queued_as c.answer-queued.result ∷ answers_unreached (drop (i + 1) calls))) (to_judge c.in_ok-next.next (seen_held c.judge.new.held) (answers_unreached (drop (i + 1) calls)))
           (outer_of (g.E.Edge.told c.args.edge.now) (g.E.Edge.heard c.args.edge.now)) (outer_of (g.E.Edge.told c.loop-call.edge) (g.E.Edge.heard c.loop-call.edge)) (outer_of (g.E.Edge.told c.judge.new.edge) (g.E.Edge.heard c.judge.new.edge)) judged (c.in_ok-next.ensures.judged (answers_unreached (drop (i + 1) calls)));
       judges = judges_then c.args.store c.loop-call.next c.in_ok-next.next c.args.held.now c.loop-call.held c.judge.new.held c.loop-call.invariant.judges c.in_ok-next.ensures.judges;
-      size = c.judge.ensures.kept ∙ c.loop-call.invariant.size ∙ sym c.in_ok-next.ensures.judges.to;
+      size = c.judge.ensures.kept ∙ c.loop-call.invariant.size ∙ sym c.in_ok-next.ensures.judges.size;
       alone = λ told. c.loop-call.invariant.alone (c.judge.ensures.alone told);
       later = later_then _ _ _ c.loop-call.invariant.later c.judge.ensures.caused.later;
       kept = c.judge.ensures.kept ∙ c.loop-call.invariant.kept;

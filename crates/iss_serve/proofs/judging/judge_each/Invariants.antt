@@ -12,7 +12,7 @@ invariant-loop-call g l = record {
   judged : Told (ServesOn (to_judge l.initial.next (seen_held l.initial.held) (answers_unreached l.calls)) (to_judge l.next (seen_held l.held) (answers_unreached (drop l.call-index l.calls))))
       (outer_of (g.E.Edge.told l.initial.edge) (g.E.Edge.heard l.initial.edge)) (outer_of (g.E.Edge.told l.edge) (g.E.Edge.heard l.edge));
   judges : Judges l.initial.next l.next l.initial.held l.held;
-  size : g.E.Edge.extent l.edge ≡ l.next.place.to;
+  size : g.E.Edge.extent l.edge ≡ l.next.layout.size;
   alone : StillTold g.E.Edge.told l.initial.edge l.edge;
   later : Later (g.E.Edge.faults l.initial.edge) (g.E.Edge.faults l.edge);
   kept : g.E.Edge.extent l.edge ≡ g.E.Edge.extent l.initial.edge;

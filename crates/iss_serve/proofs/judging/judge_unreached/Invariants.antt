@@ -14,8 +14,8 @@ invariant-calls g l = record {
   held : IsHeld l.held;
   instance : IsOf l.next l.held;
   turns : l.held.turns ≡ l.initial.held.turns;
-  to : l.next.place.to ≡ l.initial.next.place.to;
-  size : g.E.Edge.extent l.edge ≡ l.next.place.to;
+  same_size : l.next.layout.size ≡ l.initial.next.layout.size;
+  size : g.E.Edge.extent l.edge ≡ l.next.layout.size;
   alone : StillTold g.E.Edge.told l.initial.edge l.edge;
   later : Later (g.E.Edge.faults l.initial.edge) (g.E.Edge.faults l.edge);
   kept : g.E.Edge.extent l.edge ≡ g.E.Edge.extent l.initial.edge;

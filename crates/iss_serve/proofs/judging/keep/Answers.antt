@@ -1,12 +1,14 @@
 use Rattle.std.proofs.Common.{◌≡◌, ◌∷◌, Bool, Err, inl, sym, ap, subst, ◌∙◌, rules}
 use Rattle.iss_edge.specs.Outer.{outer_of}
 use Rattle.iss_edge.specs.World.{Told}
+use Rattle.iss_halves.specs.Forms.{Form}
 use Rattle.iss_store.specs.Serving.{tasks_of_record}
 use Rattle.iss_serve.specs.Causes.{fault_of_store, IsOfDisk}
 use Rattle.iss_serve.specs.Held.{seen_held, queued_as, sending, to_judge}
 use Rattle.iss_serve.specs.Judged.{judged_again, waiting_for}
 use Rattle.iss_serve.specs.Runs.{ServesSome}
 use Rattle.iss_serve.proofs.Causings.{anyhow, caused_commit}
+use Rattle.iss_serve.proofs.Judgements.{same_form}
 use Rattle.iss_serve.proofs.Keeps.{told_not_kept, told_unwaited, told_kept_some, told_kept, less_there}
 use Rattle.iss_serve.proofs.Stages.{told_some_never}
 use Rattle.iss_serve.proofs.Loops.{still_then, still_is}
@@ -70,7 +72,7 @@ returns-clause-judges g c =
       held = still_is c.args.held.now c.release.new.held c.requires.held still;
       instance = still.instance ∙ c.requires.instance ∙ sym c.in_ok-next.ensures.committed.stepped.kept;
       turns = still.turns;
-      to = ap (λ place. place.to) c.in_ok-next.ensures.committed.place;
+      size = ap (λ (form : Form). form.size) (same_form c.args.store c.in_ok-next.next c.args.planned c.in_ok-next.durable c.in_ok-next.ensures.committed);
       moves = inl (less_there c.args.store c.in_ok-next.next c.args.planned c.in_ok-next.durable c.in_ok-next.ensures.committed);
     }
 

@@ -6,10 +6,15 @@ use Rattle.iss_serve.specs.Causes.{IsOfDisk}
 use Rattle.iss_serve.specs.Held.{first_stage, seen_held, idle}
 use Rattle.iss_serve.specs.Runs.{ServesUpTo}
 use Rattle.iss_serve.proofs.Causings.{anyhow}
-use Rattle.iss_serve.proofs.Ending.{fresh, told_not_begun, told_up_to, told_to_end}
+use Rattle.iss_serve.proofs.Ending.{own_instance, fresh, told_not_begun, told_up_to, told_to_end}
 use Rattle.iss_serve.proofs.Keeps.{told_nothing_some}
 use Rattle.iss_serve.proofs.Stages.{told_on_then, told_on_then_some}
 use Rattle.iss_serve.proofs.running.serve_on.Goals as goal
+
+pub new-requires : goal.new-requires
+new-requires g c =
+    let is : c.instance.result ≡ c.args.store.core.instance = search rules in
+    rw is (own_instance _ c.args.store c.store.invariant.store c.store.view_is)
 
 pub returns-in_err-held-clause-part : goal.returns-in_err-held-clause-part
 returns-in_err-held-clause-part g c =

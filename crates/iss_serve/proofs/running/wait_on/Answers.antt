@@ -32,7 +32,7 @@ turns-preserved g c = record {
   held = c.in_ok-next.ensures.held;
   instance = c.in_ok-next.ensures.instance;
   settled = c.in_ok-next.ensures.settled;
-  size = c.turn.ensures.kept ∙ c.turns.invariant.size ∙ sym c.in_ok-next.ensures.to;
+  size = c.turn.ensures.kept ∙ c.turns.invariant.size ∙ sym c.in_ok-next.ensures.same_size;
   alone = λ told. c.turns.invariant.alone (c.turn.ensures.alone told);
   later = later_then _ _ _ c.turns.invariant.later c.turn.ensures.caused.later;
 }

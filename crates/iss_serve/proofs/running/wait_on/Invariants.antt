@@ -13,7 +13,7 @@ invariant-turns g l = record {
   held : IsHeld l.held;
   instance : IsOf l.next l.held;
   settled : l.held.unreached.items ≡ [];
-  size : g.E.Edge.extent l.edge ≡ l.next.place.to;
+  size : g.E.Edge.extent l.edge ≡ l.next.layout.size;
   alone : StillTold g.E.Edge.told l.initial.edge l.edge;
   later : Later (g.E.Edge.faults l.initial.edge) (g.E.Edge.faults l.edge);
 }

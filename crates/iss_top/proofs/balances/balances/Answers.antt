@@ -4,6 +4,7 @@ use Rattle.iss_texts.proofs.Rows.{all_end}
 use Rattle.iss_top.specs.declared.stop.Stop.TheVariants as stop
 use Rattle.iss_top.specs.Statuses.{stop_of_opening}
 use Rattle.iss_top.proofs.ToldReports.{IsReportOf, told_unopened_report, told_unopened_report_moments, told_unmade_report, told_unmade_moments, told_unmade_refuses, told_stopped_report, told_stopped_moments, told_stopped_refuses, told_report, told_report_moments, told_report_refuses}
+use Rattle.iss_top.proofs.ToldReplays.{told_unopened_refuses}
 use Rattle.iss_top.proofs.balances.balances.Goals as goal
 
 pub returns-in_err-store-clause-ran : goal.returns-in_err-store-clause-ran
@@ -16,6 +17,13 @@ returns-in_err-store-clause-ran g c =
 pub returns-in_err-store-clause-moments : goal.returns-in_err-store-clause-moments
 returns-in_err-store-clause-moments g c =
     told_unopened_report_moments (g.E.Edge.told c.args.edge.now) (g.E.Edge.told c.open.new.edge) c.in_err-store.ensures.moments
+
+pub returns-in_err-store-clause-refused : goal.returns-in_err-store-clause-refused
+returns-in_err-store-clause-refused g c =
+    let failed : c.from_residual.result ≡ Err (stop_of_opening c.in_err-store.field-0.0) = search rules in
+    rw failed (
+    told_unopened_refuses c.in_err-store.field-0.0 (g.E.Edge.told c.args.edge.now) (g.E.Edge.told c.open.new.edge) c.in_err-store.ensures.opens c.in_err-store.ensures.moments c.in_err-store.ensures.refused
+    )
 
 pub returns-in_err-lines-clause-ran : goal.returns-in_err-lines-clause-ran
 returns-in_err-lines-clause-ran g c =

@@ -1,6 +1,6 @@
 use Rattle.std.proofs.Common.{◌≡◌, Err, rules}
 use Rattle.iss_top.specs.Statuses.{stop_status, stop_of_opening, stop_of_store}
-use Rattle.iss_top.proofs.ToldReplays.{told_unopened_run, told_unopened_moments, told_waited_run, told_waited_moments, told_waited_refuses, told_run, told_moments, told_run_refuses}
+use Rattle.iss_top.proofs.ToldReplays.{told_unopened_refuses, told_unopened_run, told_unopened_moments, told_waited_run, told_waited_moments, told_waited_refuses, told_run, told_moments, told_run_refuses}
 use Rattle.iss_top.proofs.replay.replay.Goals as goal
 
 pub returns-in_err-store-clause-ran : goal.returns-in_err-store-clause-ran
@@ -13,6 +13,13 @@ returns-in_err-store-clause-ran g c =
 pub returns-in_err-store-clause-moments : goal.returns-in_err-store-clause-moments
 returns-in_err-store-clause-moments g c =
     told_unopened_moments (g.E.Edge.told c.args.edge.now) (g.E.Edge.told c.open.new.edge) c.in_err-store.ensures.moments
+
+pub returns-in_err-store-clause-refused : goal.returns-in_err-store-clause-refused
+returns-in_err-store-clause-refused g c =
+    let failed : c.from_residual.result ≡ Err (stop_of_opening c.in_err-store.field-0.0) = search rules in
+    rw failed (
+    told_unopened_refuses c.in_err-store.field-0.0 (g.E.Edge.told c.args.edge.now) (g.E.Edge.told c.open.new.edge) c.in_err-store.ensures.opens c.in_err-store.ensures.moments c.in_err-store.ensures.refused
+    )
 
 pub returns-in_err-resume-clause-ran : goal.returns-in_err-resume-clause-ran
 returns-in_err-resume-clause-ran g c =

@@ -1,7 +1,7 @@
 use Rattle.std.proofs.Common.{◌≡◌, true, false, Err, sym, ap, subst, ◌∙◌, rules}
 use Rattle.iss_edge.specs.World.{Told}
 use Rattle.iss_edge.proofs.Tolds.{later_self, later_then}
-use Rattle.iss_store.specs.Values.{StoreNow}
+use Rattle.iss_opening.specs.Values.{StoreNow}
 use Rattle.iss_top.specs.declared.stop.Stop.TheVariants as stop
 use Rattle.iss_top.specs.Replaying.{IsReplaying}
 use Rattle.iss_top.proofs.ToldRuns.{limit_begins}
@@ -16,11 +16,11 @@ returns-in_err-reader-clause-ran g c =
 pub lines-init : goal.lines-init
 lines-init g c =
     let fresh = c.in_ok-reader.ensures in
-    let start : StoreNow = record { core = c.opened.inside.core; place = c.opened.inside.journal } in
+    let start : StoreNow = record { core = c.opened.inside.core; place = c.opened.inside.journal; layout = c.opened.inside.halves; point = c.opened.inside.point } in
     record {
       limit = limit_begins c.in_ok-reader.reader fresh;
       told = told_way_begins start c.in_ok-reader.reader (g.E.Edge.told c.args.edge.now) fresh;
-      size = c.requires.size ∙ ap (λ (s : StoreNow). s.place.to) (sym c.opened.view_is);
+      size = c.requires.size ∙ ap (λ (s : StoreNow). s.layout.size) (sym c.opened.view_is);
       routes = c.lines-routes.ensures;
       later = later_self (g.E.Edge.faults c.args.edge.now);
     }
@@ -53,7 +53,7 @@ pub lines-preserved : goal.lines-preserved
 lines-preserved g c =
     let more : c.in_ok-read_line.field-0 ≡ true = search rules in
     let advances = c.in_ok-read_line.ensures.advances more in
-    let start : StoreNow = record { core = c.opened.inside.core; place = c.opened.inside.journal } in
+    let start : StoreNow = record { core = c.opened.inside.core; place = c.opened.inside.journal; layout = c.opened.inside.halves; point = c.opened.inside.point } in
     record {
       limit = advances.limit;
       told =

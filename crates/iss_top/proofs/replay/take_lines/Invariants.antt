@@ -10,7 +10,7 @@ abbrev pub invariant-lines : goal.invariant-lines
 invariant-lines g l = record {
   limit : l.reader.taken ≤ MOST_INPUT;
   told : Told (IsReplaying l.initial.store l.store l.reader) (g.E.Edge.told l.initial.edge) (g.E.Edge.told l.edge);
-  size : g.E.Edge.extent l.edge ≡ l.store.place.to;
+  size : g.E.Edge.extent l.edge ≡ l.store.layout.size;
   routes : IsLines l.routes;
   later : Later (g.E.Edge.faults l.initial.edge) (g.E.Edge.faults l.edge);
 }

@@ -2,7 +2,7 @@ use Rattle.std.proofs.Common.{◌≡◌, Err, rules}
 use Rattle.iss_edge.specs.World.{Told}
 use Rattle.iss_top.specs.Statuses.{stop_of_store}
 use Rattle.iss_top.specs.Replaying.{IsOfDisk, TakesPartAs, response_to_plan}
-use Rattle.iss_top.proofs.Lasting.{anyway, told_kept, told_kept_part, told_not_kept}
+use Rattle.iss_top.proofs.Lasting.{anyway, size_kept, told_kept, told_kept_part, told_not_kept}
 use Rattle.iss_top.proofs.taking.keep.Goals as goal
 
 pub returns-in_err-next-clause-part : goal.returns-in_err-next-clause-part
@@ -28,3 +28,6 @@ returns-clause-taken g c =
     (g.E.Edge.told c.args.edge.now) (g.E.Edge.told c.commit.new.edge) (g.E.Edge.told c.release.new.edge)
     (record { commits = c.in_ok-next.ensures.committed; on_book = c.in_ok-next.ensures.on_book })
     c.in_ok-next.ensures.lasts (c.in_ok-release.ensures.lines c.requires.lines).says
+
+pub returns-clause-size : goal.returns-clause-size
+returns-clause-size g c = size_kept c.args.store c.in_ok-next.next c.args.planned c.in_ok-next.durable c.in_ok-next.ensures.committed

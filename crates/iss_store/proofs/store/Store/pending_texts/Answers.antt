@@ -1,5 +1,5 @@
 use Rattle.std.proofs.Common.{ap}
-use Rattle.iss_store.specs.Values.{StoreNow}
+use Rattle.iss_opening.specs.Values.{StoreNow}
 use Rattle.iss_store.proofs.Said.{pending_all}
 use Rattle.iss_store.proofs.store.Store.pending_texts.Goals as goal
 

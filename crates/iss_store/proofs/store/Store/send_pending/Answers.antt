@@ -2,7 +2,7 @@ use Rattle.std.proofs.Common.{◌≡◌, ℕ, List, [], ap, ◌∙◌}
 use Rattle.std.specs.List.{flat_map}
 use Rattle.iss_edge.specs.Outer.{outer_of}
 use Rattle.iss_session.specs.Desks.{Waiter}
-use Rattle.iss_store.specs.Values.{StoreNow}
+use Rattle.iss_opening.specs.Values.{StoreNow}
 use Rattle.iss_store.specs.Serving.{tasks_by, tasks_pending, all_gone}
 use Rattle.iss_store.proofs.Resumed.{told_resumed}
 use Rattle.iss_store.proofs.store.Store.send_pending.Goals as goal

@@ -1,0 +1,10 @@
+pub mod Numbers
+pub mod Values
+pub mod Standing
+pub mod Faults
+pub mod Reading
+pub mod Opening
+pub mod Taking
+pub mod Progress
+pub mod Going
+pub mod OneJournal
