@@ -1,0 +1,9 @@
+pub mod Found
+pub mod Sound
+pub mod Hearing
+pub mod Records
+pub mod Led
+pub mod Books
+pub mod Reconciled
+pub mod Law
+pub mod Honest
