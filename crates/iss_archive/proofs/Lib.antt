@@ -1,0 +1,4 @@
+pub mod PostingLaws
+pub mod AddingLaws
+pub mod KeepingLaws
+pub mod BalanceLaws
