@@ -228,10 +228,28 @@ def with_cases(definition):
     return definition
 
 
+def without_blocks(lines):
+    """Yields the lines with those of a `module _ (..) where` block moved to the left, each definition under what the block is given."""
+    given = None
+    for line in lines:
+        found = re.match(r"^module _ (.*) where$", line)
+        if found:
+            given = found[1]
+            continue
+        if given and line and not line.startswith(" "):
+            given = None
+        if not given or not line:
+            yield line
+            continue
+        if signature_name(line[2:]) and not line.startswith(("   ", "  --")):
+            yield f"-- given {given}"
+        yield line[2:]
+
+
 def read_module(path):
     """Returns what a `specs` file imports and defines."""
     name, imports, aliases, rest, head = module_name(path), {}, {}, [], []
-    for line in path.read_text().splitlines():
+    for line in without_blocks(path.read_text().splitlines()):
         if re.match(r"^(?:pub )?use ", line):
             add_import(imports, aliases, line)
         elif line.startswith("--") and not imports and not aliases and not rest:
