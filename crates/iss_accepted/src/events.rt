@@ -53,6 +53,19 @@ impl Events {
         }
     }
 
+    /// No event, with room for this number of them. More may be added too.
+    pub fn with_room(alloc: Global, count: usize) -> Result<Events, AllocError>
+        ensures { IfOk result (λ events. events ≡ no_events) }
+    {
+        Ok(Events {
+            rows: Vec::with_capacity(alloc, count)?,
+            bytes: Vec::new(alloc),
+            names: Names::with_room(alloc, count)?,
+            decided: Vec::with_capacity(alloc, count)?,
+            spelled: Vec::new(alloc),
+        })
+    }
+
     /// Whether the event is accepted.
     pub fn has(&self, event: &Token) -> bool
         ensures { result ≡ is_some (find (λ a. is_event event.now a.input) self.now.accepted) }

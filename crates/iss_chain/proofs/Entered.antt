@@ -1,8 +1,6 @@
 -- What an entry leaves of the books.
-use Rattle.std.proofs.Common.{◌≡◌, ℕ, ◌<◌, ◌≤◌, List, [], ◌∷◌, ◌++◌, length, set, sym, ap, ◌∙◌, subst, arith}
+use Rattle.std.proofs.Common.{Vec, Global, ◌≡◌, ℕ, ◌<◌, ◌≤◌, List, [], ◌∷◌, ◌++◌, length, set, sym, ap, ◌∙◌, subst, arith}
 use Rattle.std.specs.Prelude.{Option, Some, None, slice_get, unwrap_or}
-use Rattle.std.specs.BTreeMap as tree
-use Rattle.std.specs.BTreeMap.{BTreeMap}
 use Rattle.std.specs.Option.{option_map}
 use Rattle.iss_model.specs.declared.account.Account.{Account}
 use Rattle.iss_model.specs.declared.txn.Txn.{Txn}
@@ -15,9 +13,9 @@ use Rattle.iss_chain.specs.declared.sums.PostSums.{PostSums}
 use Rattle.iss_chain.specs.Values.{ChainNow, chain_after_entry}
 use Rattle.iss_chain.specs.declared.books.Books.{Books}
 use Rattle.iss_chain.specs.Entering.{IsChainSmall}
-use Rattle.iss_chain.specs.Rows.{row_sums, sums_after, txn_sums_of, by_place, row_in, rows_from, rows_in, chain_of, AreBooksKept}
+use Rattle.iss_chain.specs.Rows.{row_sums, sums_after, txn_sums_of, row_in, rows_from, rows_in, chain_of, AreBooksKept, PutsRow}
 use Rattle.iss_chain.proofs.RowSums.{sums_more, sums_ended, ended_length, sums_set}
-use Rattle.iss_chain.proofs.RowPlaces.{rows_same, rows_more, rows_length, put_rows, later_same, one_more}
+use Rattle.iss_chain.proofs.RowPlaces.{rows_same, rows_more, rows_length, put_rows, one_more}
 
 -- the chain that these parts make
 abbrev pub chain_with : Kept → Holdings → List (Option PostSums) → ChainNow
@@ -35,8 +33,8 @@ begun ledger h g t rows more paired e f =
 pub begun_in : (b : Books) (g : Holdings) (t : Txn) → AreBooksKept b → g ≡ with_txn b.holds t → chain_of (record b { holds = g }) ≡ chain_after_entry (chain_of b) (entry.Began t)
 begun_in b g t kept e =
     let n = length b.holds.txns in
-    begun b.ledger b.holds g t (rows_in b) (rows_from (row_in b.sums) 0 (length g.txns)) (rows_length (row_in b.sums) 0 n) e
-    (rows_more (row_in b.sums) n (length g.txns) (one_more b.holds g t e) (ap (λ (o : Option (Option PostSums)). unwrap_or o None) (kept.none_after n (omega arith))))
+    begun b.ledger b.holds g t (rows_in b) (rows_from (row_in b.sums.items) 0 (length g.txns)) (rows_length (row_in b.sums.items) 0 n) e
+    (rows_more (row_in b.sums.items) n (length g.txns) (one_more b.holds g t e) (ap (λ (o : Option (Option PostSums)). unwrap_or o None) (kept.none_after n (omega arith))))
 
 pub begun_kept : (b : Books) (g : Holdings) (t : Txn) → AreBooksKept b → g ≡ with_txn b.holds t → IsChainSmall (chain_after_entry (chain_of b) (entry.Began t)) → AreBooksKept (record b { holds = g })
 begun_kept b g t kept e small =
@@ -47,11 +45,11 @@ begun_kept b g t kept e small =
     }
 
 -- room for the row of a transaction changes nothing
-pub roomy : (b : Books) (room : BTreeMap ℕ (Option PostSums)) → ((at : ℕ) → row_in room at ≡ row_in b.sums at) → chain_of (record b { sums = room }) ≡ chain_of b
+pub roomy : (b : Books) (room : Vec (Option PostSums) Global) → ((at : ℕ) → row_in room.items at ≡ row_in b.sums.items at) → chain_of (record b { sums = room }) ≡ chain_of b
 roomy b room same = ap (λ (rows : List (Option PostSums)). chain_with b.ledger b.holds rows) (rows_same (length b.holds.txns) same)
 
-pub roomy_kept : (b : Books) (room : BTreeMap ℕ (Option PostSums)) (place : ℕ) → AreBooksKept b → place < length b.holds.txns → ((at : ℕ) → row_in room at ≡ row_in b.sums at)
-    → ((at : ℕ) → place < at → tree.get by_place room at ≡ tree.get by_place b.sums at) → AreBooksKept (record b { sums = room })
+pub roomy_kept : (b : Books) (room : Vec (Option PostSums) Global) (place : ℕ) → AreBooksKept b → place < length b.holds.txns → ((at : ℕ) → row_in room.items at ≡ row_in b.sums.items at)
+    → ((at : ℕ) → place < at → slice_get room.items at ≡ slice_get b.sums.items at) → AreBooksKept (record b { sums = room })
 roomy_kept b room place kept within same later =
     record {
       none_after = λ at h. later at (omega (arith, within, h)) ∙ kept.none_after at h;
@@ -71,7 +69,7 @@ ended_count b g k e = ap (λ (x : Holdings). length x.txns) e ∙ ended_length k
 -- a transaction ended in these books
 pub ended_in : (b : Books) (g : Holdings) (k : List ℕ) → g ≡ with_end b.holds k → chain_of (record b { holds = g }) ≡ chain_after_entry (chain_of b) (entry.Ended k)
 ended_in b g k e =
-    ap (λ (n : ℕ). chain_with b.ledger g (rows_from (row_in b.sums) 0 n)) (ended_count b g k e) ∙ ended b.ledger b.holds g k (rows_in b) e
+    ap (λ (n : ℕ). chain_with b.ledger g (rows_from (row_in b.sums.items) 0 n)) (ended_count b g k e) ∙ ended b.ledger b.holds g k (rows_in b) e
 
 pub ended_kept : (b : Books) (g : Holdings) (k : List ℕ) → AreBooksKept b → g ≡ with_end b.holds k → IsChainSmall (chain_after_entry (chain_of b) (entry.Ended k)) → AreBooksKept (record b { holds = g })
 ended_kept b g k kept e small =
@@ -90,21 +88,21 @@ counted ledger h rows i k s t from to amount e f g =
     ∙ ap (λ (sums : SumsByTxn). record { balances = ledger; holdings = h; txn_sums = sums }) (sums_set h.txns rows i k s from to amount f g)
 
 -- a post for the transaction at a place was counted, over room for its row
-pub counted_in : (b : Books) (ledger : Kept) (room put : BTreeMap ℕ (Option PostSums)) (place : ℕ) (k : List ℕ) (s t : PostSums) (from to : Account) (amount : ℕ)
-    → ((at : ℕ) → row_in room at ≡ row_in b.sums at) → tree.Updates by_place room put place (Some (Some t)) → t ≡ sums_after from to amount s
+pub counted_in : (b : Books) (ledger : Kept) (room put : Vec (Option PostSums) Global) (place : ℕ) (k : List ℕ) (s t : PostSums) (from to : Account) (amount : ℕ)
+    → ((at : ℕ) → row_in room.items at ≡ row_in b.sums.items at) → PutsRow room.items put.items place t → t ≡ sums_after from to amount s
     → place < length b.holds.txns → slice_get (tokens b.holds.txns) place ≡ Some k → Some s ≡ option_map row_sums (slice_get (rows_in b) place)
     → ledger ≡ after_changes b.ledger (balance_changes (entry.Post from to amount (Some k)))
     → chain_of (record b { ledger = ledger; sums = put }) ≡ chain_after_entry (chain_of b) (entry.Post from to amount (Some k))
 counted_in b ledger room put place k s t from to amount same u after within name row posted =
     let n = length b.holds.txns in
     ap (λ (rows : List (Option PostSums)). chain_with ledger b.holds rows)
-    (put_rows room put n place t within u ∙ ap (λ (rows : List (Option PostSums)). set rows place (Some t)) (rows_same n same))
+    (put_rows room.items put.items n place t within u ∙ ap (λ (rows : List (Option PostSums)). set rows place (Some t)) (rows_same n same))
     ∙ counted ledger b.holds (rows_in b) place k s t from to amount after name (sym row)
     ∙ ap (λ (x : Kept). record { balances = x; holdings = b.holds; txn_sums = with_post (txn_sums_of b.holds.txns (rows_in b)) (entry.Post from to amount (Some k)) }) posted
 
 -- what stands after the last transaction's place is as it was
-pub put_after : (b : Books) (room put : BTreeMap ℕ (Option PostSums)) (place : ℕ) (t : PostSums) → AreBooksKept b → place < length b.holds.txns
-    → ((at : ℕ) → place < at → tree.get by_place room at ≡ tree.get by_place b.sums at) → tree.Updates by_place room put place (Some (Some t))
-    → (at : ℕ) → length b.holds.txns ≤ at → tree.get by_place put at ≡ None
+pub put_after : (b : Books) (room put : Vec (Option PostSums) Global) (place : ℕ) (t : PostSums) → AreBooksKept b → place < length b.holds.txns
+    → ((at : ℕ) → place < at → slice_get room.items at ≡ slice_get b.sums.items at) → PutsRow room.items put.items place t
+    → (at : ℕ) → length b.holds.txns ≤ at → slice_get put.items at ≡ None
 put_after b room put place t kept within later u at h =
-    later_same room put place (Some t) u at (omega (arith, within, h)) ∙ later at (omega (arith, within, h)) ∙ kept.none_after at h
+    u.later at (omega (arith, within, h)) ∙ later at (omega (arith, within, h)) ∙ kept.none_after at h

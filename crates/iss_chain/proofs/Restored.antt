@@ -1,16 +1,12 @@
 -- Books in which a transaction is taken up again: its row is the last one.
-use Rattle.std.proofs.Common.{◌≡◌, ℕ, zero, suc, ◌+◌, ◌<◌, ◌^◌, ◌==◌, ℤ, pos, ◌+ℤ◌, ◌<ℤ◌, Bool, true, false, cond, List, [], ◌∷◌, ◌++◌, length, refl, sym, ap, ap₂, ◌∙◌, subst, arith}
-use Rattle.std.proofs.lemmas.Bool.Decides.{nat_tests}
+use Rattle.std.proofs.Common.{Vec, Global, ◌≡◌, ℕ, zero, suc, ◌+◌, ◌<◌, ◌^◌, ℤ, pos, ◌+ℤ◌, ◌<ℤ◌, Bool, true, false, cond, List, [], ◌∷◌, ◌++◌, length, refl, sym, ap, ap₂, ◌∙◌, subst, arith}
 use Rattle.std.proofs.lemmas.Int.{ints}
 use Rattle.std.proofs.lemmas.List.{length-append, length-map}
 use Rattle.std.specs.Prelude.{Option, Some, None, unwrap_or}
 use Rattle.std.proofs.lemmas.Map.Text.{is_eq-slice_cmp}
-use Rattle.std.specs.Cmp.{unsigned_ties}
 use Rattle.std.specs.Cmp.Lexicographic.{nat_list_cmp_total}
 use Rattle.std.specs.FinMap as finite
 use Rattle.std.specs.Str.{bytes_eq}
-use Rattle.std.specs.BTreeMap as tree
-use Rattle.std.specs.BTreeMap.{BTreeMap}
 use Rattle.iss_model.specs.declared.state.TxnSums.{TxnSums}
 use Rattle.iss_model.specs.declared.txn.Txn.{Txn}
 use Rattle.iss_model.specs.Sums.{Change, changed_at}
@@ -26,10 +22,10 @@ use Rattle.iss_chain.specs.declared.books.Books.{Books}
 use Rattle.iss_chain.specs.declared.sums.PostSums.{PostSums}
 use Rattle.iss_chain.specs.Entering.{IsChainSmall}
 use Rattle.iss_chain.specs.Restoring.{post_sums, with_restored}
-use Rattle.iss_chain.specs.Rows.{by_place, row_in, rows_from, rows_in, row_changes, chain_of, AreBooksKept}
+use Rattle.iss_chain.specs.Rows.{row_in, rows_from, rows_in, row_changes, chain_of, AreBooksKept, PutsRow}
 use Rattle.iss_chain.specs.Values.{ChainNow}
 use Rattle.iss_chain.proofs.Entered.{chain_with}
-use Rattle.iss_chain.proofs.RowPlaces.{rows_length, later_same}
+use Rattle.iss_chain.proofs.RowPlaces.{rows_length}
 use Rattle.iss_chain.proofs.RowSums.{from_nothing, nothing_at}
 
 rows_push : (f : ℕ → Option PostSums) (i n j : ℕ) (row : Option PostSums) → j ≡ i + n → f j ≡ row → rows_from f i (suc n) ≡ rows_from f i n ++ row ∷ []
@@ -63,19 +59,13 @@ rows_below f g i zero h = refl
 rows_below f g i (suc n) h =
     ap₂ (λ (r : Option PostSums) (rs : List (Option PostSums)). r ∷ rs) (h i (omega arith)) (rows_below f g (suc i) n (λ m le. h m (omega (arith, le))))
 
-apart : (a b : ℕ) → b < a → (a == b) ≡ false
-apart a b h = grind (arith, nat_tests)
-
 -- the rows with that of the transaction that is taken up again
-pub rows_restored : (old room put : BTreeMap ℕ (Option PostSums)) (n m : ℕ) (s : PostSums) → m ≡ n + 1 → ((at : ℕ) → row_in room at ≡ row_in old at)
-    → tree.Updates by_place room put n (Some (Some s)) → rows_from (row_in put) 0 m ≡ rows_from (row_in old) 0 n ++ Some s ∷ []
-rows_restored old room put n m s more same u =
-    rows_with (row_in put) n m (Some s) more (ap (λ (o : Option (Option PostSums)). unwrap_or o None) u.1)
+pub rows_restored : (old put : List (Option PostSums)) (n m : ℕ) (s : PostSums) → m ≡ n + 1 → PutsRow old put n s
+    → rows_from (row_in put) 0 m ≡ rows_from (row_in old) 0 n ++ Some s ∷ []
+rows_restored old put n m s more u =
+    rows_with (row_in put) n m (Some s) more (ap (λ (o : Option (Option PostSums)). unwrap_or o None) u.own)
     ∙ ap (λ (rs : List (Option PostSums)). rs ++ Some s ∷ [])
-    (rows_below (row_in old) (row_in put) 0 n (λ at h.
-    ap (λ (o : Option (Option PostSums)). unwrap_or o None)
-    (u.0 at ∙ ap (λ (b : Bool). cond b (Some (Some s)) (tree.get by_place room at)) (sym (unsigned_ties n at) ∙ apart n at (omega (arith, h))))
-    ∙ same at))
+    (rows_below (row_in old) (row_in put) 0 n (λ at h. u.others at (λ same. omega (arith, h, same))))
 
 not_first : (b : Bool) (x : TxnNow) (o : Option TxnNow) → cond b (Some x) o ≡ None → b ≡ false
 not_first true x o e = cc
@@ -131,20 +121,19 @@ pub set_below : (m : Kept) (key : List ℕ) (amount : ℕ) → AreSmall (finite.
 set_below m key amount small = below amount (2 ^ 62) (subst (λ (z : ℤ). IsSmall z) (its_sum m key (pos amount)) (small key)).high
 
 -- the chain of books in which a transaction was taken up again
-pub restored_in : (b : Books) (g : Holdings) (room put : BTreeMap ℕ (Option PostSums)) (t : Txn) (s : TxnSums) (r : PostSums) → txn_named t.token b.holds.txns ≡ None
-    → r ≡ post_sums s → g ≡ with_carried b.holds t s
-    → ((at : ℕ) → row_in room at ≡ row_in b.sums at) → tree.Updates by_place room put (length b.holds.txns) (Some (Some r))
+pub restored_in : (b : Books) (g : Holdings) (put : Vec (Option PostSums) Global) (t : Txn) (s : TxnSums) (r : PostSums) → txn_named t.token b.holds.txns ≡ None
+    → r ≡ post_sums s → g ≡ with_carried b.holds t s → PutsRow b.sums.items put.items (length b.holds.txns) r
     → chain_of (record b { holds = g; sums = put }) ≡ with_restored (chain_of b) t s
-restored_in b g room put t s r none is e same u =
+restored_in b g put t s r none is e u =
     let n = length b.holds.txns in
     let x = txn_of_hold (hold_with t s) in
     let more : length g.txns ≡ n + 1 = ap (λ (h : Holdings). length h.txns) e ∙ length-append b.holds.txns (x ∷ []) in
-    let paired = rows_length (row_in b.sums) 0 n in
+    let paired = rows_length (row_in b.sums.items) 0 n in
     let cleared = sum_last (λ q. q.cleared) b.holds.txns x (rows_in b) (post_sums s) paired none in
     let refunded = sum_last (λ q. q.refunded) b.holds.txns x (rows_in b) (post_sums s) paired none in
     let paid = sum_last (λ q. q.paid) b.holds.txns x (rows_in b) (post_sums s) paired none in
     ap (λ (rows : List (Option PostSums)). chain_with b.ledger g rows)
-    (rows_restored b.sums room put n (length g.txns) r more same u ∙ ap (λ (q : PostSums). rows_in b ++ Some q ∷ []) is)
+    (rows_restored b.sums.items put.items n (length g.txns) r more u ∙ ap (λ (q : PostSums). rows_in b ++ Some q ∷ []) is)
     ∙ ap (λ (h : Holdings). chain_with b.ledger h (rows_in b ++ Some (post_sums s) ∷ [])) e
     ∙ (λ j. record {
       balances = b.ledger;
@@ -152,16 +141,13 @@ restored_in b g room put t s r none is e same u =
       txn_sums = record { cleared = cleared j; refunded = refunded j; paid = paid j };
     })
 
-pub restored_kept : (b : Books) (g : Holdings) (room put : BTreeMap ℕ (Option PostSums)) (t : Txn) (s : TxnSums) (r : PostSums) → AreBooksKept b → txn_named t.token b.holds.txns ≡ None
-    → IsChainSmall (with_restored (chain_of b) t s) → r ≡ post_sums s → g ≡ with_carried b.holds t s
-    → ((at : ℕ) → row_in room at ≡ row_in b.sums at) → ((at : ℕ) → length b.holds.txns < at → tree.get by_place room at ≡ tree.get by_place b.sums at)
-    → tree.Updates by_place room put (length b.holds.txns) (Some (Some r))
+pub restored_kept : (b : Books) (g : Holdings) (put : Vec (Option PostSums) Global) (t : Txn) (s : TxnSums) (r : PostSums) → AreBooksKept b → txn_named t.token b.holds.txns ≡ None
+    → IsChainSmall (with_restored (chain_of b) t s) → r ≡ post_sums s → g ≡ with_carried b.holds t s → PutsRow b.sums.items put.items (length b.holds.txns) r
     → AreBooksKept (record b { holds = g; sums = put })
-restored_kept b g room put t s r kept none small is e same later u =
+restored_kept b g put t s r kept none small is e u =
     let n = length b.holds.txns in
     let more : length g.txns ≡ n + 1 = ap (λ (h : Holdings). length h.txns) e ∙ length-append b.holds.txns (txn_of_hold (hold_with t s) ∷ []) in
     record {
-      none_after = λ at h.
-          later_same room put n (Some r) u at (omega (arith, more, h)) ∙ later at (omega (arith, more, h)) ∙ kept.none_after at (omega (arith, more, h));
-      small = subst (λ (x : ChainNow). IsChainSmall x) (sym (restored_in b g room put t s r none is e same u)) small;
+      none_after = λ at h. u.later at (omega (arith, more, h)) ∙ kept.none_after at (omega (arith, more, h));
+      small = subst (λ (x : ChainNow). IsChainSmall x) (sym (restored_in b g put t s r none is e u)) small;
     }

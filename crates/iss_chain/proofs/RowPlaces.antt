@@ -1,17 +1,12 @@
 -- Rows by their places: what stands there, one more row, and a row that is put there.
-use Rattle.std.proofs.Common.{◌≡◌, ℕ, zero, suc, ◌+◌, ◌<◌, ◌≤◌, ◌==◌, Bool, true, false, cond, List, [], ◌∷◌, ◌++◌, length, set, refl, sym, ap, ap₂, ◌∙◌, arith}
-use Rattle.std.proofs.lemmas.Bool.Decides.{nat_tests}
+use Rattle.std.proofs.Common.{◌≡◌, ℕ, zero, suc, ◌+◌, ◌<◌, ◌≤◌, List, [], ◌∷◌, ◌++◌, length, set, refl, sym, ap, ap₂, ◌∙◌, arith}
 use Rattle.std.proofs.lemmas.List.{length-append}
-use Rattle.std.specs.Prelude.{Option, Some, None, is_some, slice_get, unwrap_or}
+use Rattle.std.specs.Prelude.{Option, Some, None, IsSome, slice_get, unwrap_or}
 use Rattle.std.specs.Option.{option_map}
-use Rattle.std.specs.Cmp.{unsigned_ties}
-use Rattle.std.specs.BTreeMap as tree
-use Rattle.std.specs.BTreeMap.{BTreeMap, is_at}
 use Rattle.iss_model.specs.declared.txn.Txn.{Txn}
 use Rattle.iss_model.specs.state.Cores.{Holdings, with_txn, is_live}
-use Rattle.iss_hold.proofs.IndexCalls.{none_some, one_number}
 use Rattle.iss_chain.specs.declared.sums.PostSums.{PostSums}
-use Rattle.iss_chain.specs.Rows.{by_place, row_in, rows_from, row_sums}
+use Rattle.iss_chain.specs.Rows.{row_in, rows_from, row_sums, PutsRow}
 
 -- ---- rows from a place on
 
@@ -61,44 +56,86 @@ pub rows_length : (f : ℕ → Option PostSums) (i n : ℕ) → length (rows_fro
 rows_length f i zero = refl
 rows_length f i (suc n) = ap suc (rows_length f (suc i) n)
 
--- ---- the tree of rows
+-- ---- the list of rows
 
-at_place : (a b : ℕ) → is_at (by_place a) b ≡ (a == b)
-at_place a b = sym (unsigned_ties a b)
+-- there is room for the row at a place: each row is as it was, and so is what stands after that place
+pub record IsRoomed (before after : List (Option PostSums)) (place : ℕ) : Type 0 where
+  pub same : (at : ℕ) → row_in after at ≡ row_in before at
+  pub later : (at : ℕ) → place < at → slice_get after at ≡ slice_get before at
 
-room_by : (b : Bool) (o : Option (Option PostSums)) → (b ≡ true → o ≡ None) → unwrap_or (cond b (Some None) o) None ≡ unwrap_or o None
-room_by true o h = ap (λ (x : Option (Option PostSums)). unwrap_or x None) (sym (h refl))
-room_by false o h = refl
+pub roomed_none : (xs : List (Option PostSums)) (place : ℕ) → IsRoomed xs xs place
+roomed_none xs place = record { same = λ at. refl; later = λ at after. refl }
 
--- room at a place where nothing stood leaves each row as it was
-pub room_same : (m n : BTreeMap ℕ (Option PostSums)) (place : ℕ) → is_some (tree.get by_place m place) ≡ false → tree.Updates by_place m n place (Some None)
-    → (at : ℕ) → row_in n at ≡ row_in m at
-room_same m n place none u at =
-    ap (λ (o : Option (Option PostSums)). unwrap_or o None) (u.0 at)
-    ∙ room_by (is_at (by_place place) at) (tree.get by_place m at)
-    (λ (e : is_at (by_place place) at ≡ true).
-    ap (λ (k : ℕ). tree.get by_place m k) (sym (one_number place at (sym (at_place place at) ∙ e))) ∙ none_some (tree.get by_place m place) none)
+none_more : (xs : List (Option PostSums)) (at : ℕ) → row_in (xs ++ None ∷ []) at ≡ row_in xs at
+none_more [] zero = refl
+none_more [] (suc at) = refl
+none_more (x ∷ xs) zero = refl
+none_more (x ∷ xs) (suc at) = none_more xs at
 
-lower : (a b : ℕ) → a < b → (a == b) ≡ false
-lower a b h = grind (arith, nat_tests)
+after_more : (xs : List (Option PostSums)) (at : ℕ) → length xs < at → slice_get (xs ++ None ∷ []) at ≡ slice_get xs at
+after_more [] zero h = absurd (omega (arith, h))
+after_more [] (suc at) h = refl
+after_more (x ∷ xs) zero h = absurd (omega (arith, h))
+after_more (x ∷ xs) (suc at) h = after_more xs at (omega (arith, h))
 
--- what is put at a place leaves what stands after it
-pub later_same : (m n : BTreeMap ℕ (Option PostSums)) (place : ℕ) (row : Option PostSums) → tree.Updates by_place m n place (Some row)
-    → (at : ℕ) → place < at → tree.get by_place n at ≡ tree.get by_place m at
-later_same m n place row u at h =
-    u.0 at ∙ ap (λ (b : Bool). cond b (Some row) (tree.get by_place m at)) (at_place place at ∙ lower place at h)
+-- one place more without a row
+pub roomed_more : (xs ys zs : List (Option PostSums)) (place : ℕ) → length ys ≤ place → zs ≡ ys ++ None ∷ [] → IsRoomed xs ys place → IsRoomed xs zs place
+roomed_more xs ys zs place h e roomed =
+    record {
+      same = λ at. ap (λ (rows : List (Option PostSums)). row_in rows at) e ∙ none_more ys at ∙ roomed.same at;
+      later = λ at after. ap (λ (rows : List (Option PostSums)). slice_get rows at) e ∙ after_more ys at (omega (arith, h, after)) ∙ roomed.later at after;
+    }
 
-other : (a b : ℕ) → (b ≡ a → ⊥) → (a == b) ≡ false
-other a b h = grind (arith, nat_tests)
+-- something stands at each place of a list
+pub stands_within : (xs : List (Option PostSums)) (at : ℕ) → at < length xs → IsSome (slice_get xs at)
+stands_within [] at h = absurd (omega (arith, h))
+stands_within (x ∷ xs) zero h = refl
+stands_within (x ∷ xs) (suc at) h = stands_within xs at (omega (arith, h))
+
+pub within_if_stands : (xs : List (Option PostSums)) (at : ℕ) → IsSome (slice_get xs at) → at < length xs
+within_if_stands [] at h = cc
+within_if_stands (x ∷ xs) zero h = omega arith
+within_if_stands (x ∷ xs) (suc at) h = let rest : at < length xs = within_if_stands xs at h in omega (arith, rest)
+
+put_own : (xs : List (Option PostSums)) (place : ℕ) (row : Option PostSums) → IsSome (slice_get xs place) → slice_get (set xs place row) place ≡ Some row
+put_own [] place row h = cc
+put_own (x ∷ xs) zero row h = refl
+put_own (x ∷ xs) (suc place) row h = put_own xs place row h
+
+put_other : (xs : List (Option PostSums)) (place : ℕ) (row : Option PostSums) (at : ℕ) → (at ≡ place → ⊥) → slice_get (set xs place row) at ≡ slice_get xs at
+put_other [] place row at apart = refl
+put_other (x ∷ xs) zero row zero apart = absurd (apart refl)
+put_other (x ∷ xs) zero row (suc at) apart = refl
+put_other (x ∷ xs) (suc place) row zero apart = refl
+put_other (x ∷ xs) (suc place) row (suc at) apart = put_other xs place row at (λ e. apart (ap suc e))
+
+-- sums that are written at a place where something stands
+pub puts_row : (xs ys : List (Option PostSums)) (place : ℕ) (s : PostSums) → IsSome (slice_get xs place) → ys ≡ set xs place (Some s) → PutsRow xs ys place s
+puts_row xs ys place s h e =
+    record {
+      own = ap (λ (rows : List (Option PostSums)). slice_get rows place) e ∙ put_own xs place (Some s) h;
+      others = λ at apart.
+          ap (λ (rows : List (Option PostSums)). row_in rows at) e
+          ∙ ap (λ (o : Option (Option PostSums)). unwrap_or o None) (put_other xs place (Some s) at apart);
+      later = λ at after.
+          ap (λ (rows : List (Option PostSums)). slice_get rows at) e ∙ put_other xs place (Some s) at (λ same. omega (arith, after, same));
+    }
+
+-- sums that are written over room for them
+pub puts_over : (xs room ys : List (Option PostSums)) (place : ℕ) (s : PostSums) → ((at : ℕ) → row_in room at ≡ row_in xs at)
+    → ((at : ℕ) → place < at → slice_get room at ≡ slice_get xs at) → PutsRow room ys place s → PutsRow xs ys place s
+puts_over xs room ys place s same later put =
+    record {
+      own = put.own;
+      others = λ at apart. put.others at apart ∙ same at;
+      later = λ at after. put.later at after ∙ later at after;
+    }
 
 -- sums that are put at the place of a transaction are its row
-pub put_rows : (m n : BTreeMap ℕ (Option PostSums)) (count place : ℕ) (s : PostSums) → place < count → tree.Updates by_place m n place (Some (Some s))
+pub put_rows : (m n : List (Option PostSums)) (count place : ℕ) (s : PostSums) → place < count → PutsRow m n place s
     → rows_from (row_in n) 0 count ≡ set (rows_from (row_in m) 0 count) place (Some s)
-put_rows m n count place s h u =
-    rows_set (row_in m) (row_in n) count place (Some s) h
-    (ap (λ (o : Option (Option PostSums)). unwrap_or o None) u.1)
-    (λ at apart. ap (λ (o : Option (Option PostSums)). unwrap_or o None)
-    (u.0 at ∙ ap (λ (b : Bool). cond b (Some (Some s)) (tree.get by_place m at)) (at_place place at ∙ other place at apart)))
+put_rows m n count place s h put =
+    rows_set (row_in m) (row_in n) count place (Some s) h (ap (λ (o : Option (Option PostSums)). unwrap_or o None) put.own) put.others
 
 -- the sums at a place are those of its row
 pub sums_there : (f : ℕ → Option PostSums) (count place : ℕ) (s : PostSums) → place < count → s ≡ row_sums (f place) → Some s ≡ option_map row_sums (slice_get (rows_from f 0 count) place)

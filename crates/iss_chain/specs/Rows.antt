@@ -1,10 +1,6 @@
--- What is kept of each transaction's posts. There is a row for each transaction, in the order in which they began. A tree has the rows of
--- those for which a post was made.
-use Rattle.std.specs.Prelude.{◌≡◌, ℕ, zero, suc, ◌≤◌, ℤ, pos, ◌+ℤ◌, List, [], ◌∷◌, length, Option, Some, None, unwrap_or}
-use Rattle.std.specs.BTreeMap as tree
-use Rattle.std.specs.BTreeMap.{BTreeMap}
-use Rattle.std.specs.declared.cmp.Ordering.{Ordering}
-use Rattle.std.specs.Ordering.{nat_cmp}
+-- What is kept of each transaction's posts. There is a row for each transaction, in the order in which they began. A list has those up to
+-- the last one for which a post was made.
+use Rattle.std.specs.Prelude.{◌≡◌, ℕ, zero, suc, ◌≤◌, ◌<◌, ℤ, pos, ◌+ℤ◌, List, [], ◌∷◌, length, Option, Some, None, unwrap_or, slice_get}
 use Rattle.iss_model.specs.declared.account.Account.{Account}
 use Rattle.iss_model.specs.Sums.{Change, cleared_by, refunded_by, paid_by}
 use Rattle.iss_model.specs.state.Kept.{IsSmall, nothing_kept, after_changes}
@@ -55,13 +51,15 @@ txn_sums_of txns rows =
       paid = after_changes nothing_kept (row_changes (λ s. s.paid) (tokens txns) rows);
     }
 
--- places in their order
-abbrev pub by_place : ℕ → ℕ → Ordering
-by_place a b = nat_cmp a b
-
 -- the sums at a place, if a post was made for the transaction there
-abbrev pub row_in : BTreeMap ℕ (Option PostSums) → ℕ → Option PostSums
-row_in sums place = unwrap_or (tree.get by_place sums place) None
+abbrev pub row_in : List (Option PostSums) → ℕ → Option PostSums
+row_in sums place = unwrap_or (slice_get sums place) None
+
+-- sums were put at a place: each other row is as it was, and so is what stands after that place
+pub record PutsRow (before after : List (Option PostSums)) (place : ℕ) (sums : PostSums) : Type 0 where
+  pub own : slice_get after place ≡ Some (Some sums)
+  pub others : (at : ℕ) → (at ≡ place → ⊥) → row_in after at ≡ row_in before at
+  pub later : (at : ℕ) → place < at → slice_get after at ≡ slice_get before at
 
 -- what stands at this number of places, from a first one on
 abbrev pub rows_from : (ℕ → Option PostSums) → ℕ → ℕ → List (Option PostSums)
@@ -70,7 +68,7 @@ rows_from row place (suc count) = row place ∷ rows_from row (suc place) count
 
 -- a row for each transaction
 abbrev pub rows_in : Books → List (Option PostSums)
-rows_in b = rows_from (row_in b.sums) 0 (length b.holds.txns)
+rows_in b = rows_from (row_in b.sums.items) 0 (length b.holds.txns)
 
 -- the chain that is kept in these books
 abbrev pub chain_of : Books → ChainNow
@@ -78,5 +76,5 @@ chain_of b = record { balances = b.ledger; holdings = b.holds; txn_sums = txn_su
 
 -- there are no sums after the last transaction's, and each sum is small
 pub record AreBooksKept (b : Books) : Type 0 where
-  pub none_after : (place : ℕ) → length b.holds.txns ≤ place → tree.get by_place b.sums place ≡ None
+  pub none_after : (place : ℕ) → length b.holds.txns ≤ place → slice_get b.sums.items place ≡ None
   pub small : IsChainSmall (chain_of b)

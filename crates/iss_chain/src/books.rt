@@ -13,7 +13,6 @@ use iss_hold::Holds;
 use iss_ledger::Ledger;
 use iss_model::{Account, Entry, Token, Txn};
 use std::alloc::{AllocError, Global};
-use std::collections::BTreeMap;
 
 /// The balances, the holds, and the sums of the transactions that a post was made for, by their places in the order of
 /// the holds.
@@ -21,7 +20,7 @@ use std::collections::BTreeMap;
 pub(crate) struct Books {
     pub(crate) ledger: Ledger,
     pub(crate) holds: Holds,
-    pub(crate) sums: BTreeMap<usize, Option<PostSums>>,
+    pub(crate) sums: Vec<Option<PostSums>>,
 }
 
 impl Books {
@@ -33,7 +32,19 @@ impl Books {
         Ok(Books {
             ledger: Ledger::new(alloc)?,
             holds: Holds::new(alloc)?,
-            sums: BTreeMap::new(alloc),
+            sums: Vec::new(alloc),
+        })
+    }
+
+    /// Books without a transaction or a post, with room for this number of transactions.
+    pub(crate) fn with_room(alloc: Global, count: usize) -> Result<Books, AllocError>
+        ensures value { IfOk result (λ books. chain_of books ≡ no_chain) }
+        ensures kept { IfOk result (λ books. AreBooksKept books) }
+    {
+        Ok(Books {
+            ledger: Ledger::new(alloc)?,
+            holds: Holds::with_room(alloc, count)?,
+            sums: Vec::with_capacity(alloc, count)?,
         })
     }
 

@@ -63,6 +63,15 @@ impl Chain {
         })
     }
 
+    /// A chain without a transaction or a post, with room for this number of transactions. More may begin too.
+    pub fn with_room(alloc: Global, count: usize) -> Result<Chain, AllocError>
+        ensures { IfOk result (λ c. c ≡ no_chain) }
+    {
+        Ok(Chain {
+            books: Books::with_room(alloc, count)?,
+        })
+    }
+
     /// A transaction begins, which holds nothing yet.
     pub fn begin(mut self, alloc: Global, txn: &Txn) -> Result<(Chain, Vec<Entry>), AllocError>
         requires { IsNewTxn self.holdings txn.now }

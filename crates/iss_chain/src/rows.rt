@@ -1,53 +1,47 @@
 //! The sums of the transactions that a post was made for, by their places in the order in which they began.
-ghost use Rattle.std.specs.Prelude.{◌≡◌, ◌<◌, ℕ, Some, IsSome, OnOk};
-ghost use Rattle.std.specs.BTreeMap as tree;
-ghost use Rattle.iss_chain.specs.Rows.{by_place, row_in, row_sums};
+ghost use Rattle.std.specs.Prelude.{◌≡◌, ◌<◌, ℕ, slice_get, Some, IsSome, OnOk};
+ghost use Rattle.iss_chain.specs.Rows.{row_in, row_sums, PutsRow};
 
 use crate::sums::PostSums;
 use std::alloc::AllocError;
-use std::collections::BTreeMap;
 
 /// The sums at a place: all 0 if no post was made for it.
-pub(crate) fn sums_of(sums: &BTreeMap<usize, Option<PostSums>>, place: usize) -> PostSums
+pub(crate) fn sums_of(sums: &[Option<PostSums>], place: usize) -> PostSums
     ensures { result ≡ row_sums (row_in sums.now place) }
 {
-    let row = sums.get(&place).copied().unwrap_or(None);
+    let row = sums.get(place).copied().unwrap_or(None);
     row.unwrap_or(PostSums::none())
 }
 
-/// Makes room for the sums at a place that has no post yet.
-pub(crate) fn make_room(
-    sums: &mut BTreeMap<usize, Option<PostSums>>,
-    place: usize,
-) -> Result<(), AllocError>
-    ensures same { (at : ℕ) → row_in sums.new at ≡ row_in sums.old at }
-    ensures later { (at : ℕ) → place < at → tree.get by_place sums.new at ≡ tree.get by_place sums.old at }
-    ensures stands { OnOk result (IsSome (tree.get by_place sums.new place)) }
+/// Makes room for the sums at a place, and at each before it.
+pub(crate) fn make_room(sums: &mut Vec<Option<PostSums>>, place: usize) -> Result<(), AllocError>
+    ensures same { (at : ℕ) → row_in sums.new.items at ≡ row_in sums.old.items at }
+    ensures later { (at : ℕ) → place < at → slice_get sums.new.items at ≡ slice_get sums.old.items at }
+    ensures stands { OnOk result (IsSome (slice_get sums.new.items place)) }
 {
-    if !sums.contains_key(&place) {
-        sums.insert(place, None)?;
+    while sums.len() <= place {
+        sums.push(None)?;
     }
     Ok(())
 }
 
 /// Writes the sums at a place that there is room for.
-pub(crate) fn set_sums(sums: &mut BTreeMap<usize, Option<PostSums>>, place: usize, put: PostSums)
-    requires { IsSome (tree.get by_place sums.old place) }
-    ensures { tree.Updates by_place sums.old sums.new place (Some (Some put)) }
+pub(crate) fn set_sums(sums: &mut Vec<Option<PostSums>>, place: usize, put: PostSums)
+    requires { IsSome (slice_get sums.old.items place) }
+    ensures { PutsRow sums.old.items sums.new.items place put }
 {
-    if let Some(row) = sums.get_mut(&place) {
-        *row = Some(put);
-    }
+    sums[place] = Some(put);
 }
 
 /// Writes the sums at a place, whether or not there is room.
 pub(crate) fn add_sums(
-    sums: &mut BTreeMap<usize, Option<PostSums>>,
+    sums: &mut Vec<Option<PostSums>>,
     place: usize,
     put: PostSums,
 ) -> Result<(), AllocError>
-    ensures { OnOk result (tree.Updates by_place sums.old sums.new place (Some (Some put))) }
+    ensures { OnOk result (PutsRow sums.old.items sums.new.items place put) }
 {
-    sums.insert(place, Some(put))?;
+    make_room(sums, place)?;
+    set_sums(sums, place, put);
     Ok(())
 }

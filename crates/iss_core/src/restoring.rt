@@ -59,7 +59,7 @@ impl State {
     {
         match known_if_sound(alloc, state)? {
             None => Ok(false),
-            Some(known) => self.restore_known(alloc, state, &known),
+            Some(known) => self.restore_known(alloc, state, known),
         }
     }
 
@@ -69,11 +69,11 @@ impl State {
         &mut self,
         alloc: Global,
         state: &iss_model::State,
-        known: &Known,
+        known: Known,
     ) -> Result<bool, AllocError>
         requires new { kept_state self.old ≡ no_core }
         requires sound { IsSoundButSettings state.now }
-        requires known { IsKnownOf known.now (rebuilt state.now) }
+        requires known { IsKnownOf known (rebuilt state.now) }
         ensures sound { IfOk result (λ sound. IsTrue sound ↔ IsSoundState state.entry.now) }
         ensures made { IfOk result (λ sound. IsTrue sound → kept_state self.new ≡ rebuilt state.entry.now) }
     {
@@ -84,23 +84,26 @@ impl State {
         Ok(true)
     }
 
-    /// Takes up all else that a state keeps, when its settings are taken up.
+    /// Takes up all else that a state keeps, when its settings are taken up. What is known is let go as soon as
+    /// nothing asks for it, since it is large.
     fn take_up_rest(
         &mut self,
         alloc: Global,
         state: &iss_model::State,
-        known: &Known,
+        known: Known,
     ) -> Result<(), AllocError>
         requires set { kept_state self.old ≡ fold with_seen_setting no_core state.now.events }
         requires sound { IsSoundButSettings state.now }
-        requires known { IsKnownOf known.now (rebuilt state.now) }
+        requires known { IsKnownOf known (rebuilt state.now) }
         ensures { OnOk result (kept_state self.new ≡ rebuilt state.entry.now) }
     {
-        counters_again(state, known, &mut self.controls)?;
+        counters_again(state, &known, &mut self.controls)?;
         stand_ins_again(state, &mut self.sets)?;
-        self.chain = chain_again(alloc, state, known)?;
+        self.calls = calls_again(alloc, state, &known)?;
+        let txns = known.into_txns();
+        self.chain = chain_again(alloc, state, &txns)?;
+        drop(txns);
         self.events = events_again(alloc, state)?;
-        self.calls = calls_again(alloc, state, known)?;
         self.notices = notices_again(alloc, state)?;
         self.time = state.now;
         self.count = state.records;

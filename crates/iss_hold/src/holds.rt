@@ -66,6 +66,20 @@ impl Holds {
         })
     }
 
+    /// No transaction, with room for this number of them. More may be started too.
+    pub fn with_room(alloc: Global, count: usize) -> Result<Holds, AllocError>
+        ensures { IfOk result (λ h. h ≡ record { txns = []; parts = nothing_kept; held = nothing_kept }) }
+    {
+        Ok(Holds {
+            table: Table {
+                holds: HoldList::with_room(alloc, count)?,
+                places: Names::with_room(alloc, count)?,
+                sums: BTreeMap::new(alloc),
+                order: BTreeMap::new(alloc),
+            },
+        })
+    }
+
     /// How many transactions were started.
     pub fn len(&self) -> usize
         ensures { result ≡ length self.now.txns }

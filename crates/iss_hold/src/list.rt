@@ -62,6 +62,16 @@ impl HoldList {
         }
     }
 
+    /// No hold, with room for this number of them.
+    pub(crate) fn with_room(alloc: Global, count: usize) -> Result<HoldList, AllocError>
+        ensures { IfOk result (λ list. list ≡ []) }
+    {
+        Ok(HoldList {
+            rows: Vec::with_capacity(alloc, count)?,
+            names: Names::new(alloc),
+        })
+    }
+
     pub(crate) fn len(&self) -> usize
         ensures { result ≡ length self.now }
     {
@@ -82,7 +92,7 @@ impl HoldList {
         ensures refused { OnErr result (self.new ≡ self.old) }
     {
         self.rows.reserve(1)?;
-        let row = row_of(&mut self.names, txn)?;
+        let row = row_of(&mut self.names, txn, last_names(&self.rows))?;
         self.rows.push(row)?;
         Ok(())
     }
@@ -146,16 +156,24 @@ fn hold_of(names: &Names, row: &HoldRow) -> Hold
     }
 }
 
-/// The row of a transaction that begins. Names that have no place are added.
-fn row_of(names: &mut Names, txn: &Txn) -> Result<HoldRow, AllocError>
+/// The places of the names that the last row has, which the next one is likely to have too.
+fn last_names(rows: &[HoldRow]) -> [u32; 4] {
+    match rows.last() {
+        Some(row) => [row.card, row.user, row.product, row.mid],
+        None => [0; 4],
+    }
+}
+
+/// The row of a transaction that begins, whose names are likely to stand at these places. Names that have no place are added.
+fn row_of(names: &mut Names, txn: &Txn, likely: [u32; 4]) -> Result<HoldRow, AllocError>
     ensures grown { IsGrown names.old names.new }
     ensures named { IfOk result (λ row. IsNamed names.new row) }
     ensures begun { IfOk result (λ row. hold_in names.new row ≡ begun txn.now) }
 {
-    let card = place_of(names, &txn.card)?;
-    let user = place_of(names, &txn.user)?;
-    let product = place_of(names, &txn.product)?;
-    let mid = place_of(names, &txn.mid)?;
+    let card = place_of(names, &txn.card, likely[0])?;
+    let user = place_of(names, &txn.user, likely[1])?;
+    let product = place_of(names, &txn.product, likely[2])?;
+    let mid = place_of(names, &txn.mid, likely[3])?;
     Ok(HoldRow {
         token: txn.token,
         card,
@@ -176,11 +194,11 @@ fn row_of(names: &mut Names, txn: &Txn) -> Result<HoldRow, AllocError>
 }
 
 /// The place of a name, which is added if it has none.
-fn place_of(names: &mut Names, name: &Token) -> Result<u32, AllocError>
+fn place_of(names: &mut Names, name: &Token, likely: u32) -> Result<u32, AllocError>
     ensures there { IfOk result (λ place. slice_get names.new place ≡ Some name.now) }
     ensures grown { IsGrown names.old names.new }
 {
-    if let Some(place) = names.find(name) {
+    if let Some(place) = names.find_near(name, likely as usize) {
         return Ok(place);
     }
     names.add(name)

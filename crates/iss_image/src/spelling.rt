@@ -19,7 +19,7 @@ pub fn spell(alloc: Global, state: &State) -> Result<Vec<u8>, AllocError>
     if is_bare(state) {
         return Ok(out);
     }
-    let names = tokens_first(alloc, &state.events.0)?;
+    let names = tokens_first(alloc, &state.events.0, state.events.0.len())?;
     put_parts(&mut out, state, &names)?;
     Ok(out)
 }

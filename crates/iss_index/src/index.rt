@@ -1,5 +1,5 @@
 //! A list of named things, each found by its name.
-ghost use Rattle.std.specs.Prelude.{◌≡◌, [], ◌∷◌, ◌++◌, None, map, find, option_map, OnOk, OnErr};
+ghost use Rattle.std.specs.Prelude.{◌≡◌, [], ◌∷◌, ◌++◌, None, map, find, option_map, IfOk, OnOk, OnErr};
 ghost use Rattle.std.specs.Str.{bytes_eq};
 ghost use Rattle.iss_index.specs.Places.{MakesThis, changed_at};
 
@@ -36,12 +36,30 @@ impl<T: Named + Drop> Index<T> {
         }
     }
 
+    /// An index without things, with room for this number of them. A greater number may be added too.
+    pub fn with_room(alloc: Global, count: usize) -> Result<Index<T>, AllocError>
+        ensures { IfOk result (λ index. index ≡ []) }
+    {
+        Ok(Index {
+            things: Vec::with_capacity(alloc, count)?,
+            names: Names::with_room(alloc, count)?,
+        })
+    }
+
     /// The thing of that name, or `None` if there is none.
     pub fn get(&self, name: &Token) -> Option<&T>
         ensures { option_map (λ found. found.now) result ≡ find (λ t. bytes_eq (T.name_of t) name.now) self.now }
     {
         let place = self.names.find(name)?;
         Some(&self.things[place as usize])
+    }
+
+    /// The thing of that name, which is likely to stand at this place, or `None` if there is none.
+    pub fn get_near(&self, name: &Token, near: usize) -> Option<&T>
+        ensures { option_map (λ found. found.now) result ≡ find (λ t. bytes_eq (T.name_of t) name.now) self.now }
+    {
+        let found = self.names.find_near(name, near)?;
+        Some(&self.things[found as usize])
     }
 
     /// Adds a thing of a new name after the others. If an allocation fails, all stays as it was.

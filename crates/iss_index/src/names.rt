@@ -47,6 +47,17 @@ impl Names {
         }
     }
 
+    /// No name, with room for this number of them. A greater number may be added too.
+    pub fn with_room(alloc: Global, count: usize) -> Result<Names, AllocError>
+        ensures { IfOk result (λ names. names ≡ []) }
+    {
+        Ok(Names {
+            names: Vec::with_capacity(alloc, count)?,
+            places: NamePlaces::with_room(alloc, count)?,
+            alloc,
+        })
+    }
+
     /// How many names there are.
     pub fn len(&self) -> usize
         ensures { result ≡ length self.now }
@@ -68,6 +79,17 @@ impl Names {
         ensures apart { IsDistinct bytes_eq self.now }
     {
         self.places.find(&self.names, name)
+    }
+
+    /// The place of a name that is likely to be this one, or `None` if it wasn't added.
+    pub fn find_near(&self, name: &Token, near: usize) -> Option<u32>
+        ensures value { result ≡ place_of name.now self.now }
+        ensures apart { IsDistinct bytes_eq self.now }
+    {
+        match known_place(&self.names, near, name) {
+            Some(place) => Some(place),
+            None => self.find(name),
+        }
     }
 
     /// The place of a name that is likely to be the last one, or `None` if it wasn't added.
@@ -125,7 +147,14 @@ fn last_place(names: &[Token], name: &Token) -> Option<u32>
     ensures { IfSome result (λ place. is_at names.now place name.now ≡ true) }
 {
     let last = names.len().checked_sub(1)?;
-    match u32::try_from(last) {
+    known_place(names, last, name)
+}
+
+/// This place, if the name there is this one.
+fn known_place(names: &[Token], place: usize, name: &Token) -> Option<u32>
+    ensures { IfSome result (λ place. is_at names.now place name.now ≡ true) }
+{
+    match u32::try_from(place) {
         Ok(place) if is_at(names, place as usize, name) => Some(place),
         _ => None,
     }

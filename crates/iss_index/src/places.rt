@@ -15,6 +15,8 @@ use std::collections::BTreeMap;
 const LOAD: usize = 5;
 /// How many times as many groups there are then.
 const GROWTH: usize = 4;
+/// How many names a group holds on average if their number is known beforehand. Few groups are full then.
+const SPARE_LOAD: usize = 3;
 /// How many groups the first names have.
 const FIRST_GROUPS: usize = 16;
 
@@ -34,6 +36,16 @@ impl NamePlaces {
             groups: Vec::new(alloc),
             others: BTreeMap::new(alloc),
         }
+    }
+
+    /// No place, with groups for this number of names.
+    pub(crate) fn with_room(alloc: Global, count: usize) -> Result<NamePlaces, AllocError>
+        ensures { IfOk result (λ places. Finds places []) }
+    {
+        Ok(NamePlaces {
+            groups: free_groups(alloc, (count / SPARE_LOAD).max(FIRST_GROUPS))?,
+            others: BTreeMap::new(alloc),
+        })
     }
 
     /// The places of these names, in more groups than now.

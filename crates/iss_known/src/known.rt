@@ -11,7 +11,7 @@ ghost use Rattle.iss_known.specs.Known.{IsKnownOf, IsReadAgain};
 
 use crate::calls::CallKnown;
 use crate::controls::ControlKnown;
-use crate::parts::Parts;
+use crate::parts::{DEFAULT_PLACE, Parts};
 use crate::reading::read_again;
 use crate::txns::TxnKnown;
 use iss_model::{CallId, Card, Product, State, Token, Window};
@@ -67,7 +67,7 @@ impl Known {
     pub fn product(&self, product: &Token) -> Option<&Product>
         ensures { option_map (λ found. found.now) result ≡ product_named product.now self.now.products }
     {
-        let sold = self.parts.products.get(product)?;
+        let sold = self.parts.products.get_near(product, DEFAULT_PLACE)?;
         Some(sold.product())
     }
 
@@ -99,11 +99,25 @@ impl Known {
         self.parts.txns.get(txn)
     }
 
+    /// The transaction of that token, which is likely to stand at this place among `txns`, or `None` if there is none.
+    pub fn txn_near(&self, txn: &Token, near: usize) -> Option<&TxnKnown>
+        ensures { option_map (λ found. found.now) result ≡ txn_named txn.now self.now.txns }
+    {
+        self.parts.txns.get_near(txn, near)
+    }
+
     /// The transactions, in the order in which they began.
     pub fn txns(&self) -> &[TxnKnown]
         ensures { result.now ≡ self.now.txns }
     {
         self.parts.txns.as_slice()
+    }
+
+    /// The transactions, in the order in which they began. All else that is known is let go.
+    pub fn into_txns(self) -> Vec<TxnKnown>
+        ensures { result.items ≡ self.txns }
+    {
+        self.parts.txns.into_list()
     }
 
     /// The calls, in the order of their numbers.

@@ -22,6 +22,9 @@ use iss_model::{
 };
 use std::alloc::{AllocError, Global};
 
+/// The place of the default product, of which a card is if it was made without a product.
+pub(crate) const DEFAULT_PLACE: usize = 0;
+
 /// Users, cards, products, controls and sets, each the first of its name, and the transactions and the calls.
 #[derive(Drop)]
 pub(crate) struct Parts {
@@ -35,8 +38,8 @@ pub(crate) struct Parts {
 }
 
 impl Parts {
-    /// What is known without an event.
-    pub(crate) fn new(alloc: Global) -> Result<Parts, AllocError>
+    /// What is known without an event, with room for this number of transactions.
+    pub(crate) fn new(alloc: Global, count: usize) -> Result<Parts, AllocError>
         ensures { IfOk result (λ parts. known_in parts ≡ nothing_known) }
     {
         let mut products = Index::new(alloc);
@@ -47,7 +50,7 @@ impl Parts {
             products,
             controls: Controls::new(alloc),
             sets: Names::new(alloc),
-            txns: Txns::new(alloc),
+            txns: Txns::with_room(alloc, count)?,
             calls: Calls::new(alloc),
         })
     }
@@ -178,7 +181,7 @@ impl Parts {
         ensures { option_map ask_made result ≡ first_ask_known (known_in self.now) purchase.now }
     {
         let card = self.cards.get(&purchase.card)?;
-        let sold = self.products.get(&card.product)?;
+        let sold = self.products.get_near(&card.product, DEFAULT_PLACE)?;
         Some(purchase.ask(card, sold))
     }
 

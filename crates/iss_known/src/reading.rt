@@ -33,7 +33,7 @@ fn read_all(alloc: Global, txns: &[Carried], events: &[Seen]) -> Result<Option<P
     requires tokens { have_tokens_of_their_own events.now ≡ true }
     ensures { IfOk result (λ parts. option_map known_in parts ≡ known_in_turn txns.now nothing_known events.now) }
 {
-    let mut parts = Parts::new(alloc)?;
+    let mut parts = Parts::new(alloc, txns.len())?;
     for seen in events {
         let place = parts.begun();
         if !parts.take_up(txns, place, seen)? {

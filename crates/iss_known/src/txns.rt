@@ -1,5 +1,5 @@
 //! Transactions as they are known.
-ghost use Rattle.std.specs.Prelude.{◌≡◌, [], ◌∷◌, ◌++◌, None, map, option_map, OnOk, OnErr};
+ghost use Rattle.std.specs.Prelude.{◌≡◌, [], ◌∷◌, ◌++◌, None, map, option_map, IfOk, OnOk, OnErr};
 ghost use Rattle.iss_model.specs.rules.Activity.{txn_named};
 ghost use Rattle.iss_well_formed.specs.Events.{both_or_neither};
 ghost use Rattle.iss_known.specs.Reading.{are_listed, is_listed_as, live_at, live_if_named};
@@ -47,14 +47,14 @@ impl Model for Txns {
 }
 
 impl Txns {
-    /// No transaction. Nothing is allocated.
-    pub(crate) fn new(alloc: Global) -> Txns
-        ensures { result ≡ [] }
+    /// No transaction, with room for this number of them.
+    pub(crate) fn with_room(alloc: Global, count: usize) -> Result<Txns, AllocError>
+        ensures { IfOk result (λ txns. txns ≡ []) }
     {
-        Txns {
-            list: Vec::new(alloc),
-            tokens: Names::new(alloc),
-        }
+        Ok(Txns {
+            list: Vec::with_capacity(alloc, count)?,
+            tokens: Names::with_room(alloc, count)?,
+        })
     }
 
     pub(crate) fn as_slice(&self) -> &[TxnKnown]
@@ -63,11 +63,25 @@ impl Txns {
         &self.list
     }
 
+    pub(crate) fn into_list(self) -> Vec<TxnKnown>
+        ensures { result.items ≡ self }
+    {
+        self.list
+    }
+
     /// The transaction of that token, or `None` if there is none.
     pub(crate) fn get(&self, token: &Token) -> Option<&TxnKnown>
         ensures { option_map (λ found. found.now) result ≡ txn_named token.now self.now }
     {
         let place = self.tokens.find(token)?;
+        Some(&self.list[place as usize])
+    }
+
+    /// The transaction of that token, which is likely to stand at this place, or `None` if there is none.
+    pub(crate) fn get_near(&self, token: &Token, near: usize) -> Option<&TxnKnown>
+        ensures { option_map (λ found. found.now) result ≡ txn_named token.now self.now }
+    {
+        let place = self.tokens.find_near(token, near)?;
         Some(&self.list[place as usize])
     }
 

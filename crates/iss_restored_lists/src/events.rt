@@ -24,7 +24,7 @@ fn take_up_all(alloc: Global, events: &[Seen]) -> Result<Events, AllocError>
     requires tokens { have_tokens_of_their_own events.now ≡ true }
     ensures { IfOk result (λ accepted. accepted ≡ events_of_seen events.now) }
 {
-    let mut accepted = Events::new(alloc);
+    let mut accepted = Events::with_room(alloc, events.len())?;
     for event in events {
         take_up(event, &mut accepted)?;
     }

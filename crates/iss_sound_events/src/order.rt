@@ -88,7 +88,7 @@ fn is_record(body: &Record) -> bool
 fn are_named_apart(alloc: Global, events: &[Seen]) -> Result<bool, AllocError>
     ensures { IfOk result (λ apart. apart ≡ are_named_apart [] events.now) }
 {
-    let mut names = Names::new(alloc);
+    let mut names = Names::with_room(alloc, events.len())?;
     for event in events {
         let Some(token) = event.body.input.event() else {
             return Ok(false);

@@ -32,20 +32,28 @@ fn are_as_done(alloc: Global, events: &[Seen], txns: &[Carried]) -> Result<bool,
     if !are_done_listed(alloc, events, txns)? {
         return Ok(false);
     }
-    let totals = totals_of(alloc, events)?;
+    let totals = totals_of(alloc, events, txns.len())?;
     Ok(are_as_totalled(&totals, txns))
 }
 
 fn are_as_totalled(totals: &Index<Total>, txns: &[Carried]) -> bool
     ensures { result ≡ list_all (is_as_totalled totals.now) txns.now }
 {
-    txns.iter().all(|carried| is_as_totalled(totals, carried))
+    let mut near = 0_usize;
+    for carried in txns {
+        if !is_as_totalled(totals, carried, near) {
+            return false;
+        }
+        near = near.saturating_add(1);
+    }
+    true
 }
 
-fn is_as_totalled(totals: &Index<Total>, carried: &Carried) -> bool
+/// Whether a transaction is as the total of its name says, which is likely to stand at this place.
+fn is_as_totalled(totals: &Index<Total>, carried: &Carried, near: usize) -> bool
     ensures { result ≡ is_as_totalled totals.now carried.now }
 {
-    is_as_total(&total_of(totals, &carried.txn), carried)
+    is_as_total(&total_of(totals, &carried.txn, near), carried)
 }
 
 /// Whether the sums of a transaction are what the total says, fair and within what was approved.

@@ -31,24 +31,28 @@ impl Named for Total {
     }
 }
 
-/// What these events come to, for each transaction that one of them names.
-pub(crate) fn totals_of(alloc: Global, events: &[Seen]) -> Result<Index<Total>, AllocError>
+/// What these events come to, for each transaction that one of them names. There is room for `count` of them.
+pub(crate) fn totals_of(
+    alloc: Global,
+    events: &[Seen],
+    count: usize,
+) -> Result<Index<Total>, AllocError>
     requires few { length events.now ≤ MOST_RECORDS }
     requires small { list_all is_small_seen events.now ≡ true }
     ensures { IfOk result (λ totals. AreTotalsOf totals events.now) }
 {
-    let mut totals = Index::new(alloc);
+    let mut totals = Index::with_room(alloc, count)?;
     for event in events {
         add_event(&mut totals, event)?;
     }
     Ok(totals)
 }
 
-/// What a transaction comes to.
-pub(crate) fn total_of(totals: &Index<Total>, txn: &Token) -> Total
+/// What a transaction comes to. It is likely to stand at this place.
+pub(crate) fn total_of(totals: &Index<Total>, txn: &Token, near: usize) -> Total
     ensures { result ≡ total_of txn.now totals.now }
 {
-    match totals.get(txn) {
+    match totals.get_near(txn, near) {
         Some(total) => *total,
         None => Total {
             txn: *txn,

@@ -6,10 +6,12 @@ use iss_known::Known;
 use iss_model::{Currency, Funding, Input, Seen, Token, Verdict};
 
 /// Whether a card event that takes effect is of a listed transaction and in its currency.
-pub(crate) fn takes_effect_in_its_txn(event: &Seen, known: &Known) -> bool
+///
+/// An authorisation's transaction is likely to stand at this place.
+pub(crate) fn takes_effect_in_its_txn(event: &Seen, near: usize, known: &Known) -> bool
     ensures { result ≡ takes_effect_in_its_txn known.now.txns event.now }
 {
-    !takes_effect(event.verdict) || is_of_its_txn(&event.body.input, known)
+    !takes_effect(event.verdict) || is_of_its_txn(&event.body.input, near, known)
 }
 
 fn takes_effect(verdict: Option<Verdict>) -> bool
@@ -21,7 +23,7 @@ fn takes_effect(verdict: Option<Verdict>) -> bool
     )
 }
 
-fn is_of_its_txn(input: &Input, known: &Known) -> bool
+fn is_of_its_txn(input: &Input, near: usize, known: &Known) -> bool
     ensures { result ≡ is_of_its_txn known.now.txns input.now }
 {
     match input {
@@ -29,19 +31,19 @@ fn is_of_its_txn(input: &Input, known: &Known) -> bool
             token,
             currency,
             ..
-        } => is_listed_in(token, *currency, known),
+        } => is_listed_in(token, near, *currency, known),
         Input::Increment { txn, currency, .. }
         | Input::Reversal { txn, currency, .. }
         | Input::Clearing { txn, currency, .. }
-        | Input::Refund { txn, currency, .. } => is_listed_in(txn, *currency, known),
+        | Input::Refund { txn, currency, .. } => is_listed_in(txn, near, *currency, known),
         _ => true,
     }
 }
 
-fn is_listed_in(txn: &Token, currency: Currency, known: &Known) -> bool
+fn is_listed_in(txn: &Token, near: usize, currency: Currency, known: &Known) -> bool
     ensures { result ≡ is_listed_in known.now.txns txn.now currency }
 {
-    match known.txn(txn) {
+    match known.txn_near(txn, near) {
         None => false,
         Some(begun) => begun.txn.currency == currency,
     }

@@ -46,8 +46,14 @@ fn are_calls_in_order(calls: &[CallKnown], known: &Known, asked: &Asked) -> bool
 fn are_carried_in_order(txns: &[Carried], known: &Known, asked: &Asked) -> bool
     ensures { result ≡ list_all (is_carried_in_order known.now.txns asked.now) txns.now }
 {
-    txns.iter()
-        .all(|carried| is_carried_in_order(carried, known, asked))
+    let mut near = 0_usize;
+    for carried in txns {
+        if !is_carried_in_order(carried, near, known, asked) {
+            return false;
+        }
+        near = near.saturating_add(1);
+    }
+    true
 }
 
 /// Whether a call is of a listed transaction, and if it is asked, of one that the gateway pays, and alone where it must be.
@@ -62,11 +68,11 @@ fn is_call_in_order(call: &CallKnown, known: &Known, asked: &Asked) -> bool
     }
 }
 
-/// Whether a transaction has the sums that it may have.
-fn is_carried_in_order(carried: &Carried, known: &Known, asked: &Asked) -> bool
+/// Whether a transaction has the sums that it may have. It is likely to stand at this place.
+fn is_carried_in_order(carried: &Carried, near: usize, known: &Known, asked: &Asked) -> bool
     ensures { result ≡ is_carried_in_order known.now.txns asked.now carried.now }
 {
-    match known.txn(&carried.txn) {
+    match known.txn_near(&carried.txn, near) {
         Some(its) => {
             are_sums_of(its.txn.funding, &carried.sums) && holds_as_asked(carried, asked)
         }

@@ -13,7 +13,7 @@ use crate::belonging::{is_marked_in_its_txn, takes_effect_in_its_txn};
 use crate::reasons::declines_well;
 use crate::turns::is_in_turn_if_taken;
 use iss_known::{Known, TxnKnown};
-use iss_model::{Seen, State};
+use iss_model::{Input, Seen, State};
 
 /// Whether the verdicts and marks of a state's events go with its transactions: what takes effect or has a mark is of a listed transaction,
 /// declines have reasons that they may have, and increments come in turn. Each transaction has to be in the currency of its product. It
@@ -40,16 +40,29 @@ fn are_decided_well(events: &[Seen], known: &Known, asked: &Asked) -> bool
     requires { IsAskedOf known.now.calls asked.now }
     ensures { result ≡ list_all (is_decided_well known.now) events.now }
 {
-    events
-        .iter()
-        .all(|event| is_decided_well(event, known, asked))
+    let mut near = 0_usize;
+    for event in events {
+        if !is_decided_well(event, near, known, asked) {
+            return false;
+        }
+        near = near_after(near, event);
+    }
+    true
 }
 
-fn is_decided_well(event: &Seen, known: &Known, asked: &Asked) -> bool
+/// Where the transaction of the next authorisation is likely to stand, after this event.
+fn near_after(near: usize, event: &Seen) -> usize {
+    match &event.body.input {
+        Input::Authorization { .. } => near.saturating_add(1),
+        _ => near,
+    }
+}
+
+fn is_decided_well(event: &Seen, near: usize, known: &Known, asked: &Asked) -> bool
     requires { IsAskedOf known.now.calls asked.now }
     ensures { result ≡ is_decided_well known.now event.now }
 {
-    takes_effect_in_its_txn(event, known)
+    takes_effect_in_its_txn(event, near, known)
         && is_marked_in_its_txn(event, known)
         && declines_well(event, known)
         && is_in_turn_if_taken(event, known, asked)

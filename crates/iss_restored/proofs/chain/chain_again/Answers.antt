@@ -6,8 +6,8 @@ use Rattle.iss_restored.proofs.chain.chain_again.Goals as goal
 pub with_txns-requires : goal.with_txns-requires
 with_txns-requires c =
     let txns : c.deref.result.now ≡ c.args.state.now.txns = search rules in
-    restorable_so c.args.state.now c.requires.sound c.in_ok-new.field-0 c.txns.result.now c.deref.result.now c.in_ok-new.ensures
-    (c.txns.ensures ∙ c.requires.known.txns) txns
+    restorable_so c.args.state.now c.requires.sound c.in_ok-chain.chain c.args.txns.now c.deref.result.now c.in_ok-chain.ensures
+    c.requires.begun txns
 
 pub with_balances-requires : goal.with_balances-requires
 with_balances-requires c =
@@ -21,6 +21,6 @@ returns c =
     IfOk-weaker c.with_balances.result _ _
     (λ made is.
     is
-    ∙ chain_so c.args.state.now c.requires.sound c.in_ok-new.field-0 c.in_ok-chain.chain c.txns.result.now c.deref.result.now
-    c.deref-2.result.now c.in_ok-new.ensures (c.txns.ensures ∙ c.requires.known.txns) txns balances c.in_ok-chain.ensures)
+    ∙ chain_so c.args.state.now c.requires.sound c.in_ok-chain.chain c.in_ok-taken.taken c.args.txns.now c.deref.result.now
+    c.deref-2.result.now c.in_ok-chain.ensures c.requires.begun txns balances c.in_ok-taken.ensures)
     c.with_balances.ensures

@@ -3,7 +3,7 @@ use Rattle.iss_restored_lists.proofs.EventsAgain.{begins, goes_on, is_new, its_f
 use Rattle.iss_restored_lists.proofs.events.take_up_all.Goals as goal
 
 pub loop-event-init : goal.loop-event-init
-loop-event-init c = begins c.args.events.now c.new-accepted.result c.new-accepted.ensures c.requires.forms c.requires.tokens
+loop-event-init c = begins c.args.events.now c.in_ok-accepted.accepted c.in_ok-accepted.ensures c.requires.forms c.requires.tokens
 
 pub take_up-requires-clause-form : goal.take_up-requires-clause-form
 take_up-requires-clause-form c =

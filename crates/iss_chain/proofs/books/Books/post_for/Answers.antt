@@ -1,4 +1,6 @@
-use Rattle.std.proofs.Common.{length, sym, ap, subst, ◌∙◌}
+use Rattle.std.specs.Prelude.{Option}
+use Rattle.iss_chain.specs.declared.sums.PostSums.{PostSums}
+use Rattle.std.proofs.Common.{List, length, sym, ap, subst, ◌∙◌}
 use Rattle.iss_model.specs.state.Kept.{Kept}
 use Rattle.iss_chain.specs.Values.{ChainNow}
 use Rattle.iss_chain.specs.Entering.{IsChainSmall}
@@ -30,21 +32,21 @@ pub after-sums-requires-clause-before : goal.after-sums-requires-clause-before
 after-sums-requires-clause-before c =
     let b = c.args.self.now in
     let there = found c.args.txn.now b.holds.txns c.in-Some.place (sym c.in-Some.ensures.place) in
-    let row = sums_there (row_in b.sums) (length b.holds.txns) c.in-Some.place c.sums_of.result there.within (c.sums_of.ensures ∙ ap row_sums (c.make_room.ensures.same c.in-Some.place)) in
+    let row = sums_there (row_in b.sums.items) (length b.holds.txns) c.in-Some.place c.sums_of.result there.within (c.sums_of.ensures ∙ ap (λ (rows : List (Option PostSums)). row_sums (row_in rows c.in-Some.place)) c.deref.ensures.value ∙ ap row_sums (c.make_room.ensures.same c.in-Some.place)) in
     row_small b.holds.txns (rows_in b) c.in-Some.place c.args.txn.now c.sums_of.result c.in-Some.ensures.once there.name_there (sym row) c.requires.kept.small.txn_sums
 
 pub after-sums-requires-clause-after : goal.after-sums-requires-clause-after
 after-sums-requires-clause-after c =
     let b = c.args.self.now in
     let there = found c.args.txn.now b.holds.txns c.in-Some.place (sym c.in-Some.ensures.place) in
-    let row = sums_there (row_in b.sums) (length b.holds.txns) c.in-Some.place c.sums_of.result there.within (c.sums_of.ensures ∙ ap row_sums (c.make_room.ensures.same c.in-Some.place)) in
+    let row = sums_there (row_in b.sums.items) (length b.holds.txns) c.in-Some.place c.sums_of.result there.within (c.sums_of.ensures ∙ ap (λ (rows : List (Option PostSums)). row_sums (row_in rows c.in-Some.place)) c.deref.ensures.value ∙ ap row_sums (c.make_room.ensures.same c.in-Some.place)) in
     row_small_after b.holds.txns (rows_in b) c.in-Some.place c.args.txn.now c.sums_of.result c.args.from.now c.args.to.now c.args.amount c.in-Some.ensures.once there.name_there (sym row) c.requires.small.txn_sums
 
 pub returns-clause-entered : goal.returns-clause-entered
 returns-clause-entered c =
     let b = c.args.self.now in
     let there = found c.args.txn.now b.holds.txns c.in-Some.place (sym c.in-Some.ensures.place) in
-    let row = sums_there (row_in b.sums) (length b.holds.txns) c.in-Some.place c.sums_of.result there.within (c.sums_of.ensures ∙ ap row_sums (c.make_room.ensures.same c.in-Some.place)) in
+    let row = sums_there (row_in b.sums.items) (length b.holds.txns) c.in-Some.place c.sums_of.result there.within (c.sums_of.ensures ∙ ap (λ (rows : List (Option PostSums)). row_sums (row_in rows c.in-Some.place)) c.deref.ensures.value ∙ ap row_sums (c.make_room.ensures.same c.in-Some.place)) in
     counted_in b c.post.new.self c.make_room.new.sums c.set_sums.new.sums c.in-Some.place c.args.txn.now c.sums_of.result c.after-sums.result c.args.from.now c.args.to.now c.args.amount
     c.make_room.ensures.same c.set_sums.ensures c.after-sums.ensures there.within there.name_there row c.in_ok-post-in-Some.ensures.posted
 
@@ -52,7 +54,7 @@ pub returns-clause-kept : goal.returns-clause-kept
 returns-clause-kept c =
     let b = c.args.self.now in
     let there = found c.args.txn.now b.holds.txns c.in-Some.place (sym c.in-Some.ensures.place) in
-    let row = sums_there (row_in b.sums) (length b.holds.txns) c.in-Some.place c.sums_of.result there.within (c.sums_of.ensures ∙ ap row_sums (c.make_room.ensures.same c.in-Some.place)) in
+    let row = sums_there (row_in b.sums.items) (length b.holds.txns) c.in-Some.place c.sums_of.result there.within (c.sums_of.ensures ∙ ap (λ (rows : List (Option PostSums)). row_sums (row_in rows c.in-Some.place)) c.deref.ensures.value ∙ ap row_sums (c.make_room.ensures.same c.in-Some.place)) in
     let entered =
     counted_in b c.post.new.self c.make_room.new.sums c.set_sums.new.sums c.in-Some.place c.args.txn.now c.sums_of.result c.after-sums.result c.args.from.now c.args.to.now c.args.amount
     c.make_room.ensures.same c.set_sums.ensures c.after-sums.ensures there.within there.name_there row c.in_ok-post-in-Some.ensures.posted in

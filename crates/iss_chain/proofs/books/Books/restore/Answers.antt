@@ -1,7 +1,5 @@
-use Rattle.std.proofs.Common.{ℕ, ◌≡◌, ◌<◌, refl, subst}
-use Rattle.std.specs.Prelude.{Some}
-use Rattle.std.specs.BTreeMap as tree
-use Rattle.iss_chain.specs.Rows.{by_place, chain_of}
+use Rattle.std.proofs.Common.{ℕ, subst}
+use Rattle.iss_chain.specs.Rows.{chain_of, PutsRow}
 use Rattle.iss_chain.proofs.Restored.{set_below, restored_in, restored_kept}
 use Rattle.iss_chain.proofs.books.Books.restore.Goals as goal
 
@@ -22,12 +20,12 @@ of-requires-clause-paid c =
 
 pub returns-clause-restored : goal.returns-clause-restored
 returns-clause-restored c =
-    restored_in c.args.self.now c.restore.new.self c.args.self.now.sums c.add_sums.new.sums c.args.txn.now c.args.sums.now c.of.result
-    c.requires.restorable.new.unknown c.of.ensures c.in_ok-restore.ensures.restored (λ at. refl)
-    (subst (λ (n : ℕ). tree.Updates by_place c.args.self.now.sums c.add_sums.new.sums n (Some (Some c.of.result))) c.len-place.ensures c.in_ok-add_sums.ensures)
+    restored_in c.args.self.now c.restore.new.self c.add_sums.new.sums c.args.txn.now c.args.sums.now c.of.result
+    c.requires.restorable.new.unknown c.of.ensures c.in_ok-restore.ensures.restored
+    (subst (λ (n : ℕ). PutsRow c.args.self.now.sums.items c.add_sums.new.sums.items n c.of.result) c.len-place.ensures c.in_ok-add_sums.ensures)
 
 pub returns-clause-kept : goal.returns-clause-kept
 returns-clause-kept c =
-    restored_kept c.args.self.now c.restore.new.self c.args.self.now.sums c.add_sums.new.sums c.args.txn.now c.args.sums.now c.of.result
-    c.requires.kept c.requires.restorable.new.unknown c.requires.restorable.small c.of.ensures c.in_ok-restore.ensures.restored (λ at. refl) (λ at after. refl)
-    (subst (λ (n : ℕ). tree.Updates by_place c.args.self.now.sums c.add_sums.new.sums n (Some (Some c.of.result))) c.len-place.ensures c.in_ok-add_sums.ensures)
+    restored_kept c.args.self.now c.restore.new.self c.add_sums.new.sums c.args.txn.now c.args.sums.now c.of.result
+    c.requires.kept c.requires.restorable.new.unknown c.requires.restorable.small c.of.ensures c.in_ok-restore.ensures.restored
+    (subst (λ (n : ℕ). PutsRow c.args.self.now.sums.items c.add_sums.new.sums.items n c.of.result) c.len-place.ensures c.in_ok-add_sums.ensures)

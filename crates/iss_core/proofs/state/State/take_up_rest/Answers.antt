@@ -11,6 +11,6 @@ stand_ins_again-requires-clause-nothing c = (settings_again c.args.state.now (ke
 
 pub returns : goal.returns
 returns c =
-    rest_again c.args.state.now (kept_state c.args.self.now) c.counters_again.new.controls c.stand_ins_again.new.sets c.in_ok-self.field-0 c.in_ok-self-2.field-0
-    c.in_ok-self-3.field-0 c.in_ok-self-4.field-0 c.requires.set c.in_ok-counters_again.ensures c.in_ok-stand_ins_again.ensures c.in_ok-self.ensures
-    c.in_ok-self-2.ensures c.in_ok-self-3.ensures c.in_ok-self-4.ensures
+    rest_again c.args.state.now (kept_state c.args.self.now) c.counters_again.new.controls c.stand_ins_again.new.sets c.in_ok-self-2.field-0 c.in_ok-self-3.field-0
+    c.in_ok-self.field-0 c.in_ok-self-4.field-0 c.requires.set c.in_ok-counters_again.ensures c.in_ok-stand_ins_again.ensures c.in_ok-self-2.ensures
+    c.in_ok-self-3.ensures c.in_ok-self.ensures c.in_ok-self-4.ensures
