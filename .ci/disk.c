@@ -3,7 +3,8 @@
 //
 //     DISK        the file that is the device
 //     DISK_LOG    the log, which gets a line at its end for each action before the next one, so that it outlives the program
-//     DISK_SYNCS  which syncs count: `all`, `none`, those after a `gate` (a write of one byte), or those after a `body` (any other write)
+//     DISK_SYNCS  which syncs count: `all`, `none`, those after a `gate` (a write of one byte), those after a `body` (any other write), or
+//                 `appends`: all but the two of a turn, after a write at a half's start and after one of the selector
 //     DISK_STOP   the number of the action at which the program is killed, from 1; none if it isn't said
 //
 // The actions are writes and syncs of the device, and texts: what goes to standard output or to a socket. The log's lines are
@@ -29,7 +30,7 @@
 #include <sys/uio.h>
 #include <unistd.h>
 
-enum { BYTES = 1 << 17, HEAD = 64, FIRST_FILE = 100 };
+enum { BYTES = 1 << 17, HEAD = 64, FIRST_FILE = 100, SELECTOR = 16, HALVES_START = 17 };
 enum role { OTHER, DEVICE, STREAM };
 
 static struct stat device;
@@ -37,6 +38,7 @@ static int log_file = -1;
 static long actions, stop;
 static const char *syncs;
 static size_t last_write;
+static off_t last_place;
 
 static void fail(const char *what)
 {
@@ -128,6 +130,7 @@ static struct iovec joined(const struct iovec *parts, int count)
 static ssize_t put(int file, const void *bytes, size_t count, off_t place)
 {
     last_write = count;
+    last_place = place;
     note_bytes("write", place, bytes, count);
     ssize_t done = syscall(SYS_pwrite64, file, bytes, count, place);
     if (++actions == stop)
@@ -167,6 +170,20 @@ static ssize_t go_out(int file, const struct iovec *parts, int count, int flags)
     return done;
 }
 
+// Whether the last write was one of a turn.
+static int is_of_turn(void)
+{
+    off_t second = HALVES_START + (device.st_size - HALVES_START) / 2;
+    return last_place == SELECTOR || last_place == HALVES_START || last_place == second;
+}
+
+static int counts(void)
+{
+    if (strcmp(syncs, "appends") == 0)
+        return !is_of_turn();
+    return strcmp(syncs, "all") == 0 || strcmp(syncs, last_write == 1 ? "gate" : "body") == 0;
+}
+
 static int settle(long call, int file)
 {
     unsigned long stream;
@@ -174,8 +191,7 @@ static int settle(long call, int file)
         return syscall(call, file);
     if (++actions == stop)
         end();
-    const char *kind = last_write == 1 ? "gate" : "body";
-    if (strcmp(syncs, "all") == 0 || strcmp(syncs, kind) == 0)
+    if (counts())
         note("sync\n");
     return 0;
 }

@@ -13,9 +13,9 @@ from collections import namedtuple
 
 sys.path.insert(0, "examples/tools")
 sys.dont_write_bytecode = True
-from device_lines import Body, Journal, bodies_of  # noqa: E402
+from device_lines import FIRST_GATE, HALVES_START, Body, Journal, bodies_of  # noqa: E402
 
-# A device in halves, each of which has room for all that a run makes: no device turns here.
+# A device in halves, each of which has room for all that a run makes, so that it never turns.
 SIZE, INSTANCE = 1 << 18, 7
 SECONDS = 60
 # A line that gets this text alone marks where the texts of the line before it end.
@@ -80,9 +80,19 @@ def said_by(text):
     return (text.partition(b"\r\n\r\n")[2] or text).rstrip(b"\n")
 
 
-def is_body(action):
-    """Whether a record is written; the other writes are of gates."""
-    return action.kind == "write" and len(action.data) > 1
+def is_half(action, size):
+    """Whether a half is written, with an image: the first write of a turn."""
+    return action.kind == "write" and action.number in (HALVES_START, HALVES_START + (size - HALVES_START) // 2)
+
+
+def is_selector(action):
+    """Whether the half that was written is named: the other write of a turn."""
+    return action.kind == "write" and action.number == FIRST_GATE
+
+
+def is_body(action, size):
+    """Whether a record is written; the other writes are of gates, and of turns."""
+    return action.kind == "write" and len(action.data) > 1 and not is_half(action, size)
 
 
 def record_line(action):
@@ -90,10 +100,9 @@ def record_line(action):
     return Body(action.data[4:-1]).line()
 
 
-def records_of(device):
-    """The bytes of all records that stand, with their gates."""
-    gate = Journal(device).gate
-    return device[gate:max((end for _, end in bodies_of(device)), default=gate)]
+def stands_on(device):
+    """How many records are in the image alone, and the bodies of those after it."""
+    return Journal(device).first(), [device[start:end] for start, end in bodies_of(device)]
 
 
 def torn(old, new, chance):
@@ -154,16 +163,16 @@ class Seen:
 class Machine:
     """A machine with its device, the library's log, and what was done since the disk forgot last."""
 
-    def __init__(self, program, room, syncs, chance):
-        self.program, self.room, self.library = program, room, room.parent / "disk.so"
-        self.syncs, self.chance, self.amid = syncs, random.Random(chance), 0
+    def __init__(self, program, room, syncs, chance, size=SIZE):
+        self.program, self.room, self.library, self.size = program, room, room.parent / "disk.so", size
+        self.syncs, self.chance, self.amid, self.turning = syncs, random.Random(chance), 0, 0
         self.device, self.log = room / "device", room / "log"
         room.mkdir()
         self.format()
 
     def format(self):
         self.device.unlink(missing_ok=True)
-        subprocess.run([self.program, "format", self.device, str(SIZE), str(INSTANCE)], check=True, timeout=SECONDS)
+        subprocess.run([self.program, "format", self.device, str(self.size), str(INSTANCE)], check=True, timeout=SECONDS)
         self.settle()
 
     def settle(self):
@@ -171,9 +180,11 @@ class Machine:
         self.lasting, self.done = self.device.read_bytes(), []
 
     def forget(self):
-        """The machine stops, amid an append if something isn't settled."""
+        """The machine stops, amid an append or a turn if something isn't settled."""
         compare(self.device.read_bytes() == image_of(self.lasting, self.done + [SYNC], self.chance))
-        self.amid += any(action.kind == "write" for action in self.done[last_sync(self.done) + 1:])
+        unsettled = [action for action in self.done[last_sync(self.done) + 1:] if action.kind == "write"]
+        self.amid += unsettled != []
+        self.turning += any(is_half(action, self.size) or is_selector(action) for action in unsettled)
         self.device.write_bytes(image_of(self.lasting, self.done, self.chance))
         self.settle()
 
@@ -201,7 +212,7 @@ class Machine:
         status, out, actions = self.replay(b"".join(lines) + MARK + acknowledgements, device=copy)
         refuse(status, [0])
         marked = next(place for place, action in enumerate(actions) if action.data == MARKED)
-        for action in filter(is_body, actions[:marked]):
+        for action in (action for action in actions[:marked] if is_body(action, self.size)):
             raise Lost(f"a record of which a byte went out is made again: {record_line(action)}")
         missing = seen.replies - set(out.splitlines())
         if missing:

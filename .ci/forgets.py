@@ -2,27 +2,31 @@
 
 usage: forgets.py PROGRAM ROOM
 
-ROOM has the library of .ci/disk.c as `disk.so`, the programs `load` and `gateway` of bench/, and the file `lines` to be replayed. Chance
-goes by a number, which a failure tells. ISSUER_CHANCE gives it again: the replays are then the same, and what is served nearly so.
+ROOM has the library of .ci/disk.c as `disk.so`, the programs `load` and `gateway` of bench/, and the files to be replayed: `lines`, and
+`turning`, for which a small device turns ten times. Chance goes by a number, which a failure tells. ISSUER_CHANCE gives it again: the replays are then the same, and what is served nearly so.
 """
 import json
 import os
 import random
 import re
+import shutil
 import signal
 import socket
 import subprocess
 import sys
 import threading
+from collections import namedtuple
 from concurrent.futures import ThreadPoolExecutor
 from pathlib import Path
 
-from disk import MARK, MARKED, SECONDS, Lost, Machine, Seen, Wrong
-from disk import compare, end_all, is_body, read_log, record_line, records_of, refuse, said_by, start, texts_of
+from disk import HALVES_START, MARK, MARKED, SECONDS, SIZE, Lost, Machine, Seen, Wrong
+from disk import compare, end_all, is_body, is_half, is_selector, read_log, record_line, refuse, said_by, stands_on, start, texts_of
 
 PROGRAM, ROOM = sys.argv[1], Path(sys.argv[2])
 CHANCE = os.environ.get("ISSUER_CHANCE") or str(random.SystemRandom().randrange(10**6))
 KILLS, PARTS = 200, 2
+# The same of a device that turns. Each second run of these is killed in its next turn, or at the write after it.
+TURNING_KILLS, TURN = 100, 5
 # The most kills that a disk needs whose syncs don't all count, to lose something.
 CONTROL_KILLS = 200
 # Of a hundred kills, those after which the machine goes on and keeps all that was written.
@@ -44,8 +48,13 @@ PROMPT_NAMES = "m1,refuses,m1,garbled,m1,early,fails"
 FLIGHT, GATEWAY_MILLIS = 8, 3
 
 
-def machine_of(name, syncs="all"):
-    return Machine(PROGRAM, ROOM / name, syncs, f"{CHANCE} {name}")
+# What is replayed: a file of lines, and the size of the device.
+Input = namedtuple("Input", "file size")
+PLAIN, TURNING = Input("lines", SIZE), Input("turning", 9500)
+
+
+def machine_of(name, syncs="all", size=SIZE):
+    return Machine(PROGRAM, ROOM / name, syncs, f"{CHANCE} {name}", size)
 
 
 def moment_of(machine, command):
@@ -64,14 +73,16 @@ def kill_all(machine, kills, kill_some):
     while left > 0:
         left -= kill_some(left)
     if machine.amid < kills / 4:
-        raise Wrong(f"only {machine.amid} of {kills} kills came amid an append")
+        raise Wrong(f"only {machine.amid} of {kills} kills came amid an append or a turn")
+    if machine.size == TURNING.size and machine.turning < kills / 5:
+        raise Wrong(f"only {machine.turning} of {kills} kills came amid a turn")
 
 
 # Runs that replay.
 
 
-def lines_to_replay():
-    return (ROOM / "lines").read_bytes().splitlines(keepends=True)
+def lines_of(given):
+    return (ROOM / given.file).read_bytes().splitlines(keepends=True)
 
 
 def marked(lines):
@@ -83,28 +94,45 @@ def count_told(texts):
     return sum(part != b"" for part in b"".join(texts).split(MARKED)[1:])
 
 
-def kill_replays(name, syncs, kills):
-    machine, lines = machine_of(name, syncs), lines_to_replay()
-    records = records_of(whole_replay(machine_of(f"{name}-whole"), lines))
-    kill_all(machine, kills, lambda most: replay_through(machine, lines, records, most))
+def kill_replays(name, syncs, kills, given=PLAIN):
+    machine, lines = machine_of(name, syncs, given.size), lines_of(given)
+    bodies = whole_replay(machine_of(f"{name}-whole", size=given.size), lines)
+    kill_all(machine, kills, lambda most: replay_through(machine, lines, bodies, most))
+
+
+def kill_turns(name, syncs, kills):
+    kill_replays(name, syncs, kills, TURNING)
 
 
 def whole_replay(machine, lines):
-    """The device that a run which isn't killed leaves."""
+    """The bodies of all records that a run makes which isn't killed."""
     status, out, machine.done = machine.replay(b"".join(lines))
     refuse(status, [0])
     compare(out == b"".join(texts_of(machine.done)))
+    bodies = [action.data[4:-1] for action in machine.done if is_body(action, machine.size)]
     machine.forget()
-    return machine.device.read_bytes()
+    return bodies
 
 
-def replay_through(machine, lines, records, most):
+def moment_of_replay(machine, lines):
+    """The number of the action at which a run is killed that takes these lines: on a device that turns half the time one of the next turn."""
+    if machine.size == TURNING.size and machine.chance.randrange(2) == 0:
+        copy = machine.room / "copy"
+        shutil.copy(machine.device, copy)
+        _, _, actions = machine.replay(marked(lines), device=copy)
+        for number, action in enumerate(actions, 1):
+            if is_half(action, machine.size):
+                return number + machine.chance.randrange(TURN)
+    return moment_of(machine, "replay")
+
+
+def replay_through(machine, lines, bodies, most):
     """Replays all lines, in runs that are killed, and returns after how many kills the disk forgot. Each run begins with the first line
     that wasn't told, whose record may stand."""
     machine.format()
     told, forgot, seen = 0, 0, Seen()
     while told < len(lines) and forgot < most:
-        status, _, actions = machine.replay(marked(lines[told:]), stop=moment_of(machine, "replay"))
+        status, _, actions = machine.replay(marked(lines[told:]), stop=moment_of_replay(machine, lines[told:]))
         refuse(status, [0, KILLED])
         machine.done += actions
         told += count_told(texts_of(actions))
@@ -113,7 +141,8 @@ def replay_through(machine, lines, records, most):
             machine.forget()
             machine.tells_again([line for line in lines[:told] if b'"ack"' not in line], seen)
             forgot += status == KILLED
-    if not records.startswith(records_of(machine.device.read_bytes())):
+    first, stood = stands_on(machine.device.read_bytes())
+    if stood != bodies[first:first + len(stood)]:
         raise Lost("the records are others than those of a run that isn't killed")
     return forgot
 
@@ -235,21 +264,27 @@ def set_up(machine, timeout):
 # The order of writes, syncs and texts.
 
 
-def records_in_order(actions):
-    """The line of each record, by the place of its write. After it come a sync, its gate and a sync, and no text goes out between."""
+def records_in_order(actions, size=SIZE):
+    """The line of each record, by the place of its write, and how often the device turned. After a record come a sync, its gate and a sync,
+    and after a half a sync, the selector that names it and a sync. No text goes out between."""
     letters = {"sync": "s", "text": "t", "write": "g"}
-    story = "".join("b" if is_body(action) else letters[action.kind] for action in actions)
+    story = "".join("b" if is_body(action, size) or is_half(action, size) else letters[action.kind] for action in actions)
     # A run that was killed may end amid an append.
     if not re.fullmatch("s(t|bsgs)*(b|bs|bsg)?", story):
         raise Lost(f"writes (b), gates (g), syncs (s) and texts (t) come in another order: {story}")
-    lines, gate = {}, None
+    lines, gate, turns = {}, None, 0
     for place in (match.start() for match in re.finditer("bsgs", story)):
         body, opened = actions[place], actions[place + 2]
+        if is_half(body, size):
+            if not is_selector(opened) or opened.data != bytes([body.number > HALVES_START]):
+                raise Lost(f"it isn't the selector of the half that was written: {opened}")
+            gate, turns = body.number + len(body.data) - 1, turns + 1
+            continue
         if opened.data != b"\x01" or opened.number + 1 != body.number or gate not in (None, opened.number):
             raise Lost(f"it isn't the gate before the record that is opened: {opened}")
         gate = opened.number + len(body.data)
         lines[place] = record_line(body)
-    return lines
+    return lines, turns
 
 
 def said_key(line):
@@ -257,12 +292,14 @@ def said_key(line):
     return line.get("token", line.get("call"))
 
 
-def order_of_replay(name):
-    """The record of each line stands before its first text."""
-    lines = lines_to_replay()
-    status, _, actions = machine_of(name).replay(marked(lines))
+def order_of_replay(name, given, least):
+    """The record of each line stands before its first text, and the device turns so often at least."""
+    lines = lines_of(given)
+    status, _, actions = machine_of(name, size=given.size).replay(marked(lines))
     refuse(status, [0])
-    records = records_in_order(actions)
+    records, turns = records_in_order(actions, given.size)
+    if turns < least:
+        raise Wrong(f"the device turned {turns} times")
     first = {said_key(record): place for place, record in reversed(records.items()) if said_key(record)}
     marks = [place for place, action in enumerate(actions) if action.data == MARKED]
     for line, begin, end in zip(lines, marks, marks[1:]):
@@ -283,7 +320,7 @@ def order_of_serve(name):
         finally:
             server.kill()
     actions = read_log(machine.log)
-    places = {said_key(record): place for place, record in records_in_order(actions).items()}
+    places = {said_key(record): place for place, record in records_in_order(actions)[0].items()}
     for place, action in enumerate(actions):
         if action.kind == "text":
             told = json.loads(said_by(action.data))
@@ -319,11 +356,14 @@ def checks():
     for part in range(1, PARTS + 1):
         yield kill_serves, f"serve-{part}", "all", KILLS // PARTS
         yield kill_replays, f"replay-{part}", "all", KILLS // PARTS
-    yield order_of_replay, "replay-order"
+    yield kill_turns, "turns", "all", TURNING_KILLS
+    yield order_of_replay, "replay-order", PLAIN, 0
+    yield order_of_replay, "turns-order", TURNING, 10
     yield order_of_serve, "serve-order"
     for syncs in ("none", "gate", "body"):
         yield is_noticed, f"replay-{syncs}", syncs, kill_replays
         yield is_noticed, f"serve-{syncs}", syncs, kill_serves
+    yield is_noticed, "turns-appends", "appends", kill_turns
 
 
 def main():

@@ -129,3 +129,29 @@ mixed() {
         for (i = 12 + 21 * rounds; i < count; i++) event("user", "u1", "\"user\":\"u1\"")
     }'
 }
+
+# long_names COUNT: lines that repeat names of 36 letters: a product that a gateway funds, a user, and a card that is offered again and
+# again. Of each 24 lines one is a purchase, one a time by which its call is due, and one the acknowledgement of the notice of that. So a
+# record is long and adds little to an image.
+long_names() {
+    awk -v count="$1" '
+    function name(letter,   text) { text = sprintf("%36s", ""); gsub(/ /, letter, text); return text }
+    function event(type, token, rest) { printf "{\"type\":\"%s\",\"token\":\"%s\",%s}\n", type, token, rest }
+    function card(token) { event("card", token, sprintf("\"card\":\"%s\",\"user\":\"%s\",\"product\":\"%s\"", name("c"), name("u"), name("p"))) }
+    function purchase(token, at) {
+        event("authorization", token, sprintf("\"card\":\"%s\",\"currency\":\"USD\",\"amount\":\"1.00\",\"mcc\":\"5411\",\"mid\":\"%s\",\"at\":%d", name("c"), name("m"), at))
+    }
+    BEGIN {
+        event("product", "p", sprintf("\"product\":\"%s\",\"currency\":\"USD\",\"funding\":\"GATEWAY\"", name("p")))
+        event("user", "u", sprintf("\"user\":\"%s\"", name("u")))
+        card("c")
+        for (i = 0; i < count - 3; i++) {
+            n = int(i / 24)
+            kind = i % 24
+            if (kind < 21) card("c" i)
+            if (kind == 21) purchase("a" n, n * 10000)
+            if (kind == 22) printf "{\"type\":\"time\",\"at\":%d}\n", n * 10000 + 5000
+            if (kind == 23) printf "{\"type\":\"ack\",\"notice\":%d}\n", n + 1
+        }
+    }'
+}
