@@ -1,8 +1,8 @@
 //! The reference gateway.
-ghost use Rattle.std.specs.Prelude.{◌≡◌, ◌≤◌, ◌<◌, ◌+◌, nat_le, IsTrue, IfOk, OnOk, OnErr};
+ghost use Rattle.std.specs.Prelude.{◌≡◌, ◌≤◌, ◌<◌, ◌+◌, nat_le, IsTrue, IfOk, OnOk, OnErr, option_and_then};
 ghost use Rattle.iss_gateway.specs.declared.books.TheConstants.{MOST_HEARD};
 ghost use Rattle.iss_gateway.specs.Messages.{is_within};
-ghost use Rattle.iss_gateway.specs.Books.{count_of, total};
+ghost use Rattle.iss_gateway.specs.Books.{count_of, is_noted, is_voided, promise_of, total};
 ghost use Rattle.iss_gateway.specs.Rules.{new_reference, wish_for, after_hearing, given_for};
 
 use crate::books::MOST_HEARD;
@@ -11,6 +11,7 @@ use crate::{Given, Message};
 use iss_model::Currency;
 use std::alloc::{AllocError, Global};
 use std::marker::Model;
+use uuid::Uuid;
 
 /// A gateway that answers by fixed rules. Contracts see its two limits and its books: what it first gave for each token, and
 /// the notices on which it acted.
@@ -76,6 +77,27 @@ impl Gateway {
         ensures { result ≡ total self.now.books currency }
     {
         self.table.total(currency)
+    }
+
+    /// What it funded at the first ask of a token, in minor units. `None` exactly if it funded nothing.
+    pub fn funded(&self, token: Uuid) -> Option<u64>
+        ensures { result ≡ option_and_then (λ p. p.funded) (promise_of self.now.books token) }
+    {
+        self.table.promise(&token)?.funded
+    }
+
+    /// Whether a notice on which it acted voided a token.
+    pub fn is_voided(&self, token: Uuid) -> bool
+        ensures { result ≡ is_voided self.now.books token }
+    {
+        self.table.is_voided(&token)
+    }
+
+    /// Whether it acted on the notice of this number.
+    pub fn is_noted(&self, number: u32) -> bool
+        ensures { result ≡ is_noted self.now.books number }
+    {
+        self.table.is_noted(number)
     }
 
     /// How much it would fund for a message.

@@ -37,7 +37,7 @@ fn given_for(gateway: &mut Gateway, messages: &[Message]) -> Result<[Given; 10],
     Ok(given)
 }
 
-fn worked(alloc: Global, user: Token) -> Result<([Given; 10], i64), AllocError> {
+fn worked(alloc: Global, user: Token) -> Result<([Given; 10], Gateway), AllocError> {
     let mut gateway = Gateway::new(alloc, 6000, 10000)?;
     let messages = [
         ask(user, 1, false),
@@ -52,13 +52,13 @@ fn worked(alloc: Global, user: Token) -> Result<([Given; 10], i64), AllocError> 
         void(user, 2, 5),
     ];
     let given = given_for(&mut gateway, &messages)?;
-    Ok((given, gateway.total(Currency::Usd)))
+    Ok((given, gateway))
 }
 
 #[test]
 fn asks_repeats_and_voids(rt: HostRuntime) -> Result<(), Fail> {
     let user = Token::new(b"u1").ok_or("no token")?;
-    let (given, total) = worked(rt.alloc(), user)?;
+    let (given, gateway) = worked(rt.alloc(), user)?;
     let expected = [
         Given::Funded(6000),
         Given::Funded(6000),
@@ -72,6 +72,12 @@ fn asks_repeats_and_voids(rt: HostRuntime) -> Result<(), Fail> {
         Given::Acked,
     ];
     assert!(rt; given == expected);
-    assert_eq!(rt; total, 10000);
+    assert_eq!(rt; gateway.total(Currency::Usd), 10000);
+    assert!(rt; gateway.funded(CallId(4).uuid(0)) == Some(4000));
+    assert!(rt; gateway.funded(CallId(5).uuid(0)).is_none());
+    assert!(rt; gateway.is_voided(CallId(1).uuid(0)));
+    assert!(rt; !gateway.is_voided(CallId(3).uuid(0)));
+    assert!(rt; gateway.is_noted(2));
+    assert!(rt; !gateway.is_noted(3));
     Ok(())
 }

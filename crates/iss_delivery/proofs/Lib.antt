@@ -1,0 +1,4 @@
+pub mod Lists
+pub mod Sendable
+pub mod ReadAsSent
+pub mod Delivered
