@@ -7,7 +7,7 @@ use crate::lines::{
 };
 use crate::playing::{Device, OPENING, Played, Run, play, start_of};
 use crate::rows::{HALVES, HALVES_OF_7, REPORT};
-use crate::serving::{SETTINGS, TWO_IN_FLIGHT};
+use crate::serving::{SETTINGS, TWO_CALLS};
 use iss_edge::Action;
 use std::alloc::{AllocError, Global};
 use std::test::Fail;
@@ -127,17 +127,13 @@ static IN_HALVES: [Run; 10] = [
         ..OPENING
     },
     Run {
-        what: "two calls at once",
-        words: &["serve", "d", "80", "81", "1000"],
         device: Device {
             size: 8000,
             pieces: &[HALVES_OF_7],
             lines: SETTINGS,
         },
-        comes: TWO_IN_FLIGHT,
-        done: "S.W.S.W.S.DAEAW.S.W.S.DBEBXBW.S.W.S.E2X2X3XAW.S.W.S.E1X1",
-        heard: "C1R1T1DAEAC2R2T2DBEBRBTBE2C3R3T3RATAE1Z.",
-        ..OPENING
+        levels: &[],
+        ..TWO_CALLS
     },
 ];
 

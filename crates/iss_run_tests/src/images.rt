@@ -7,17 +7,22 @@ use std::alloc::{AllocError, Global};
 pub(crate) enum Left {
     Nothing,
     All,
-    OpenGates,
+    /// A byte in the place of each: 1 is that of an open gate, 7 that of a torn one.
+    Only(u8),
 }
 
 /// Each way in which unfinished writes may stand here.
-pub(crate) const WAYS: [Left; 3] = [Left::Nothing, Left::All, Left::OpenGates];
+pub(crate) const WAYS: [Left; 4] = [Left::Nothing, Left::All, Left::Only(1), Left::Only(7)];
 
-/// Writes these bytes there, or ones in their place.
-fn overwrite(image: &mut [u8], at: u64, bytes: &[u8], ones: bool) {
+/// Writes these bytes there, or what is left of them.
+fn overwrite(image: &mut [u8], at: u64, bytes: &[u8], left: Left) {
     for (i, byte) in bytes.iter().enumerate() {
         if let Some(place) = image.get_mut((at as usize).saturating_add(i)) {
-            *place = if ones { 1 } else { *byte };
+            match left {
+                Left::Nothing => {}
+                Left::All => *place = *byte,
+                Left::Only(one) => *place = one,
+            }
         }
     }
 }
@@ -34,15 +39,8 @@ pub(crate) fn image_of(
     for action in actions {
         match action {
             Action::Write { at, bytes, .. } => {
-                overwrite(&mut written, *at, bytes.as_slice(), false);
-                if !matches!(left, Left::Nothing) {
-                    overwrite(
-                        &mut image,
-                        *at,
-                        bytes.as_slice(),
-                        matches!(left, Left::OpenGates),
-                    );
-                }
+                overwrite(&mut written, *at, bytes.as_slice(), Left::All);
+                overwrite(&mut image, *at, bytes.as_slice(), left);
             }
             Action::Sync { ok: true } => {
                 image.clear();
@@ -75,6 +73,11 @@ fn half_start(device: &[u8]) -> usize {
 /// Whether a device is in halves, by the version in its header.
 fn is_halved(device: &[u8]) -> bool {
     device.get(5) == Some(&2)
+}
+
+/// How many bytes the image of the current half has.
+pub(crate) fn image_length(device: &[u8]) -> usize {
+    number_at(device, half_start(device))
 }
 
 /// How many records are in the image of the current half: an image begins with that number. One journal has no image.
@@ -111,8 +114,16 @@ pub(crate) fn records_on(device: &[u8]) -> (usize, usize) {
     (0, gate)
 }
 
-/// Whether the records of a device are the first ones of another, and the gate after them is 0.
+/// Whether the records of a device are the first ones of another in the same half, and the gate after them is 0. The byte that names the
+/// half may be any but 1 for the first.
 pub(crate) fn is_front(device: &[u8], whole: &[u8]) -> bool {
     let (_, gate) = records_on(device);
-    device.get(..gate) == whole.get(..gate) && device.get(gate) == Some(&0)
+    let start = if is_halved(device) {
+        half_start(device)
+    } else {
+        16
+    };
+    device.get(..16) == whole.get(..16)
+        && device.get(start..gate) == whole.get(start..gate)
+        && device.get(gate) == Some(&0)
 }

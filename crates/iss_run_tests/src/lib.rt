@@ -15,6 +15,8 @@ mod lines;
 #[cfg(test)]
 mod links;
 #[cfg(test)]
+mod padded;
+#[cfg(test)]
 mod playing;
 #[cfg(test)]
 mod replays;
@@ -26,5 +28,7 @@ mod runs;
 mod serving;
 #[cfg(test)]
 mod stops;
+#[cfg(test)]
+mod strangers;
 #[cfg(test)]
 mod told;

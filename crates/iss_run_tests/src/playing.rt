@@ -50,6 +50,18 @@ pub(crate) struct Run {
     pub(crate) calls: u64,
     /// How many records stand before each text goes out.
     pub(crate) levels: &'static [usize],
+    /// Which texts wait for the gateway, if they are compared with what the next run writes first. All requests come before all
+    /// notices, in the order of their numbers.
+    pub(crate) waiting: Option<&'static [Waiting]>,
+}
+
+/// A text that waits for the gateway: its number among the texts of a run, from 0. It waits if at least `from` records stand,
+/// and fewer than `until`.
+#[derive(Clone, Copy)]
+pub(crate) struct Waiting {
+    pub(crate) text: usize,
+    pub(crate) from: usize,
+    pub(crate) until: usize,
 }
 
 /// A replay of no lines: it opens the device and writes what waits for the gateway.
@@ -71,6 +83,7 @@ pub(crate) const OPENING: Run = Run {
     leaves: None,
     calls: 0,
     levels: &[],
+    waiting: None,
 };
 
 /// A run that was played, and the outside after it.

@@ -98,7 +98,7 @@ const ENDS_EARLY: &[Come<'static>] = &[
 ];
 
 /// Two purchases wait for the gateway at once. It funds the second one first and then refuses the first; a client comes and ends.
-pub(crate) const TWO_IN_FLIGHT: &[Come<'static>] = &[
+const TWO_IN_FLIGHT: &[Come<'static>] = &[
     Come::Client(1),
     Come::Asks(1, FIRST),
     Come::Client(2),
@@ -139,6 +139,17 @@ const THREE_NOTICES: &[Come<'static>] = &[
     Come::Asks(6, THIRD),
     Come::Time(604800000),
 ];
+
+/// Two purchases that wait for the gateway at once, and what becomes of them.
+pub(crate) const TWO_CALLS: Run = Run {
+    what: "two calls at once",
+    comes: TWO_IN_FLIGHT,
+    done: "S.W.S.W.S.DAEAW.S.W.S.DBEBXBW.S.W.S.E2X2X3XAW.S.W.S.E1X1",
+    heard: "C1R1T1DAEAC2R2T2DBEBRBTBE2C3R3T3RATAE1Z.",
+    calls: 46,
+    levels: &[4, 5, 6, 7],
+    ..SERVE
+};
 
 /// Runs that serve, each of which may stop.
 static SERVED: [Run; 18] = [
@@ -227,15 +238,7 @@ static SERVED: [Run; 18] = [
         levels: &[1],
         ..SERVE
     },
-    Run {
-        what: "two calls at once",
-        comes: TWO_IN_FLIGHT,
-        done: "S.W.S.W.S.DAEAW.S.W.S.DBEBXBW.S.W.S.E2X2X3XAW.S.W.S.E1X1",
-        heard: "C1R1T1DAEAC2R2T2DBEBRBTBE2C3R3T3RATAE1Z.",
-        calls: 46,
-        levels: &[4, 5, 6, 7],
-        ..SERVE
-    },
+    TWO_CALLS,
     Run {
         what: "two calls are open at the end",
         words: &["serve", "d", "80", "81", "4"],

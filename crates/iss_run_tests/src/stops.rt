@@ -1,5 +1,6 @@
-//! Runs that stop: after each action, three of the images that it may leave, and the runs that come next on each.
-use crate::images::{WAYS, image_of, is_front, records_on};
+//! Runs that stop: after each action, some of the images that it may leave, and the runs that come next on each.
+use crate::images::{WAYS, image_length, image_of, is_front, point_on, records_on};
+use crate::padded::{IMAGE_LENGTH, padded, padded_day};
 use crate::playing::{OPENING, Played, Run, play, start_of};
 use crate::replays::lines;
 use crate::serving::served;
@@ -11,26 +12,55 @@ use std::test::Fail;
 /// The first number of a channel that is dialled.
 const FIRST_DIALLED: u32 = 1000001;
 
-/// The next opening of an image, if its records are the first ones of this device and at least `least`.
+/// The next opening of an image, if at least this many records stand there. They are the first ones on the device after the whole
+/// run, or on the one that it began with, if the device hasn't turned yet.
 fn opened(
     alloc: Global,
     image: &[u8],
+    start: &[u8],
     whole: &[u8],
     least: usize,
 ) -> Result<Option<Played>, AllocError> {
     let opened = play(alloc, &OPENING, &[], image, 0)?;
-    let (count, _) = records_on(opened.edge.device());
-    let stands = opened.status == 0 && least <= count && is_front(opened.edge.device(), whole);
+    let device = opened.edge.device();
+    let (count, _) = records_on(device);
+    let are_first = is_front(device, whole) || is_front(device, start);
+    let stands = opened.status == 0 && least <= count && are_first;
     Ok(if stands { Some(opened) } else { None })
 }
 
-/// Whether each of three images after these actions has the records that stood first, and those of texts of which a byte
-/// went out. All of them are first ones of this device. A run that has no levels is on no device with records.
+/// The text of this number, from 0, among these actions, without its channel.
+fn bytes_at(actions: &[Action], number: usize) -> Option<&[u8]> {
+    text_at(actions, number).map(|text| text.1)
+}
+
+/// Whether an opening writes the texts of this run that wait, as many records as now stand on its device, and no other.
+fn says_what_waits(row: &Run, whole: &Played, opened: &Played) -> bool {
+    let waiting = match row.waiting {
+        Some(waiting) => waiting,
+        None => return true,
+    };
+    let (count, _) = records_on(opened.edge.device());
+    let mut number = 0usize;
+    for text in waiting {
+        if text.from <= count && count < text.until {
+            let said = bytes_at(opened.edge.trace(), number);
+            if said != bytes_at(whole.edge.trace(), text.text) {
+                return false;
+            }
+            number = number.saturating_add(1);
+        }
+    }
+    bytes_at(opened.edge.trace(), number).is_none()
+}
+
+/// Whether each image after these actions has the records that stood first, and those of texts of which a byte went out. All of
+/// them are first ones of the whole run's, and an opening says what waits then. A run that has no levels is on no device with records.
 pub(crate) fn stands_after(
     alloc: Global,
     row: &Run,
     start: &[u8],
-    whole: &[u8],
+    whole: &Played,
     actions: &[Action],
 ) -> Result<bool, AllocError> {
     if row.levels.is_empty() {
@@ -40,7 +70,11 @@ pub(crate) fn stands_after(
     let least = level(row, actions).max(at_start);
     for left in WAYS {
         let image = image_of(alloc, start, actions, left)?;
-        if opened(alloc, &image, whole, least)?.is_none() {
+        let stands = match opened(alloc, &image, start, whole.edge.device(), least)? {
+            Some(opened) => says_what_waits(row, whole, &opened),
+            None => false,
+        };
+        if !stands {
             return Ok(false);
         }
     }
@@ -58,7 +92,7 @@ fn first_bad_line(alloc: Global, row: &Run) -> Result<Option<usize>, AllocError>
     let whole = play(alloc, row, row.comes, &start, 0)?;
     for count in 0..=whole.edge.trace().len() {
         let actions = actions_until(&whole.edge, count);
-        if !stands_after(alloc, row, &start, whole.edge.device(), actions)? {
+        if !stands_after(alloc, row, &start, &whole, actions)? {
             return Ok(Some(count));
         }
     }
@@ -78,6 +112,34 @@ fn first_lost(alloc: Global, rows: &[Run]) -> Result<Option<(&'static str, usize
 #[test]
 fn each_stop_of_a_replay_leaves_what_was_told(rt: HostRuntime) -> Result<(), Fail> {
     assert_eq!(rt; first_lost(rt.alloc(), lines())?, None);
+    Ok(())
+}
+
+#[test]
+fn each_stop_on_a_device_that_turns_leaves_what_was_told(rt: HostRuntime) -> Result<(), Fail> {
+    assert_eq!(rt; first_lost(rt.alloc(), padded())?, None);
+    Ok(())
+}
+
+#[test]
+fn each_stop_of_a_day_leaves_what_was_told(rt: HostRuntime) -> Result<(), Fail> {
+    assert_eq!(rt; first_lost(rt.alloc(), padded_day())?, None);
+    Ok(())
+}
+
+/// How many records stand in the image after a run on the padded device, and the length of that image.
+fn turned(alloc: Global, row: &Run) -> Result<(usize, usize), AllocError> {
+    let start = start_of(alloc, &row.device)?;
+    let played = play(alloc, row, row.comes, &start, 0)?;
+    let device = played.edge.device();
+    Ok((point_on(device), image_length(device)))
+}
+
+#[test]
+fn each_of_them_turns_before_its_first_record(rt: HostRuntime) -> Result<(), Fail> {
+    for row in padded().iter().chain(padded_day()) {
+        assert_eq!(rt; turned(rt.alloc(), row)?, (50, IMAGE_LENGTH));
+    }
     Ok(())
 }
 
@@ -112,64 +174,84 @@ fn are_asked_first(waited: &[Action], next: &[Action]) -> bool {
     true
 }
 
-/// Whether this text went out, to the gateway on any channel, or to the client on this one.
-fn is_sent(actions: &[Action], to: Channel, text: &[u8]) -> bool {
+/// Whether this text went out whole, to the gateway on any channel, or to the client on this one.
+fn is_sent(actions: &[Action], to: Channel, text: &[u8], whole: bool) -> bool {
     actions.iter().any(|action| match action {
         Action::Emit { ch, bytes, ok } => {
-            *ok && bytes.as_slice() == text && (ch.0 == to.0 || FIRST_DIALLED <= ch.0.min(to.0))
+            *ok && bytes.as_slice().starts_with(text)
+                && (!whole || bytes.as_slice().len() == text.len())
+                && (ch.0 == to.0 || FIRST_DIALLED <= ch.0.min(to.0))
         }
         _ => false,
     })
 }
 
-/// Whether each text that went out whole to the gateway, or else to clients, is sent there too.
+/// Whether each text that went out to the gateway, or else to clients, is sent whole there too. Of one that was torn the bytes that
+/// went out are compared.
 fn are_sent(actions: &[Action], there: &[Action], to_gateway: bool) -> bool {
     actions.iter().all(|action| match action {
         Action::Emit { ch, bytes, ok } => {
-            !*ok || (FIRST_DIALLED <= ch.0) != to_gateway || is_sent(there, *ch, bytes.as_slice())
+            bytes.is_empty()
+                || (FIRST_DIALLED <= ch.0) != to_gateway
+                || is_sent(there, *ch, bytes.as_slice(), *ok)
         }
         _ => true,
     })
 }
 
-/// Whether the next run on an image goes on. It ends well, and first sends what waits, with the bytes that the whole run
-/// sent or would have sent. Then it answers again what these actions answered.
+/// A run that served, what it began with, and what stands after it.
+#[derive(Clone, Copy)]
+pub(crate) struct Serving<'a> {
+    pub(crate) row: &'a Run,
+    pub(crate) start: &'a [u8],
+    /// The run by which the records were made.
+    pub(crate) made: &'a Played,
+    /// That run, if none of its calls failed: the next one sends the gateway no other text.
+    pub(crate) whole: Option<&'a Played>,
+}
+
+/// Whether the next run on an image goes on. It ends well, and first sends what waits. To the gateway it sends what the whole run sent,
+/// if there is one. Then it answers again what these actions answered.
 fn goes_on(
     alloc: Global,
-    row: &Run,
-    whole: &Played,
+    serving: &Serving,
     actions: &[Action],
     image: &[u8],
-    least: usize,
 ) -> Result<bool, AllocError> {
-    let waited = match opened(alloc, image, whole.edge.device(), least)? {
+    let (at_start, _) = records_on(serving.start);
+    let least = level(serving.row, actions).max(at_start);
+    let device = serving.made.edge.device();
+    let waited = match opened(alloc, image, serving.start, device, least)? {
         Some(waited) => waited,
         None => return Ok(false),
     };
-    let again = Run { fails: &[], ..*row };
-    let next = play(alloc, &again, row.comes, image, 0)?;
+    let again = Run {
+        fails: &[],
+        ..*serving.row
+    };
+    let next = play(alloc, &again, again.comes, image, 0)?;
     let sent = next.edge.trace();
+    let asks_the_same = match serving.whole {
+        Some(whole) => are_sent(sent, whole.edge.trace(), true),
+        None => true,
+    };
     Ok(
         next.status == 0
             && are_asked_first(waited.edge.trace(), sent)
-            && (!row.fails.is_empty() || are_sent(sent, whole.edge.trace(), true))
+            && asks_the_same
             && are_sent(actions, sent, false),
     )
 }
 
-/// Whether the next run goes on from each of three images after these actions.
-fn goes_on_after(
+/// Whether the next run goes on from each image after these actions.
+pub(crate) fn goes_on_after(
     alloc: Global,
-    row: &Run,
-    start: &[u8],
-    whole: &Played,
+    serving: &Serving,
     actions: &[Action],
 ) -> Result<bool, AllocError> {
-    let (at_start, _) = records_on(start);
-    let least = level(row, actions).max(at_start);
     for left in WAYS {
-        let image = image_of(alloc, start, actions, left)?;
-        if !goes_on(alloc, row, whole, actions, &image, least)? {
+        let image = image_of(alloc, serving.start, actions, left)?;
+        if !goes_on(alloc, serving, actions, &image)? {
             return Ok(false);
         }
     }
@@ -179,10 +261,19 @@ fn goes_on_after(
 /// After how many actions a run that serves leaves an image from which the next one doesn't go on.
 fn first_bad_serving(alloc: Global, row: &Run) -> Result<Option<usize>, AllocError> {
     let start = start_of(alloc, &row.device)?;
-    let whole = play(alloc, row, row.comes, &start, 0)?;
-    for count in 0..=whole.edge.trace().len() {
-        let actions = actions_until(&whole.edge, count);
-        if !goes_on_after(alloc, row, &start, &whole, actions)? {
+    let made = play(alloc, row, row.comes, &start, 0)?;
+    let serving = Serving {
+        row,
+        start: &start,
+        made: &made,
+        whole: if row.fails.is_empty() {
+            Some(&made)
+        } else {
+            None
+        },
+    };
+    for count in 0..=made.edge.trace().len() {
+        if !goes_on_after(alloc, &serving, actions_until(&made.edge, count))? {
             return Ok(Some(count));
         }
     }
