@@ -2,8 +2,9 @@
 """What the program does if it lacks memory: memory.py ISSUER SHIM FOLDER.
 
 Each of three runs is made again and again, and each time one allocation more goes well before one is refused (allocations.c). It ends
-with status 7 or as it does with ample memory. What it told is the front of what it tells then, and has its records. The same holds
-of a longer replay and of a longer served run under twenty limits of its address space.
+with status 7 or as it does with ample memory; one that serves ends with 3 if it was refused to the outside, in a wait. What it told is
+the front of what it tells with ample memory, and has its records. The same holds of a longer replay and of a longer served run under
+twenty limits of their address space.
 """
 import contextlib
 import json
@@ -13,11 +14,13 @@ import socket
 import subprocess
 import sys
 import threading
+from collections import Counter
 from pathlib import Path
 
 from peers import HOST, Client, Peer, ended, free_port, purchase, request, settings, until
 
-WANT = 7
+# An allocation was refused; to the outside, in a wait or in listening.
+WANT, INPUT_FAULT = 7, 3
 ISSUER, SHIM, FOLDER = sys.argv[1:]
 DEVICE, COPY, REFUSED_AT = (str(Path(FOLDER) / name) for name in ("device", "copy", "refused"))
 
@@ -208,23 +211,27 @@ def serve(limits):
         clients = two_calls(served, gateway, texts)
         status = served.end()
         gateway.over.set()
-    expect(status in (0, WANT), "serve ended with", status)
+    expect(status in (0, WANT, INPUT_FAULT), "serve ended with", status)
     told = sum(1 for client in clients if client and client.body())
-    expect(status == WANT or told == 2, "serve told", told, "purchases and went on")
+    expect(status or told == 2, "serve told", told, "purchases and went on")
     expect_replies_kept(clients, texts, "serve")
     return status
 
 
+def ends(statuses):
+    return ", ".join(f"{count} with status {status}" for status, count in sorted(statuses.items()))
+
+
 def each_refused(what, make):
     """Refuses each allocation of a run in turn, until the run makes no more."""
-    wants = number = 0
+    statuses, number = Counter(), 1
     while True:
-        number += 1
         status = make({"env": refusing(number)})
         if not was_refused():
             break
-        wants += status == WANT
-    print(f"{what}: {number - 1} allocations, each refused once; {wants} runs ended with status 7, {number - 1 - wants} went on")
+        statuses[status] += 1
+        number += 1
+    print(f"{what}: {number - 1} allocations, each refused once; {ends(statuses)}", flush=True)
 
 
 def limited(size):
@@ -268,9 +275,9 @@ def long_serve(limits):
         clients.append(client)
         ended([client] if client else [], 10)
     status = served.end()
-    expect(status in (0, WANT), "a long served run ended with", status)
+    expect(status in (0, WANT, INPUT_FAULT), "a long served run ended with", status)
     told = sum(1 for client in clients if client and client.body())
-    expect(status == WANT or told == 3000, "a long served run told", told)
+    expect(status or told == 3000, "a long served run told", told)
     expect_replies_kept(clients, texts, "a long served run")
     return status
 
@@ -280,8 +287,8 @@ def each_size(what, make):
     least = least_size(lambda size: run("dry", **limited(size)).returncode == 0)
     most = least_size(lambda size: run("dry", text=lines(*MANY), **limited(size)).returncode == 0)
     sizes = [least + (most - least) * step // 19 for step in range(20)]
-    wants = sum(make(limited(size)) == WANT for size in sizes)
-    print(f"{what}: twenty limits from {least >> 10:,} to {most >> 10:,} KiB; {wants} runs ended with status 7")
+    statuses = Counter(make(limited(size)) for size in sizes)
+    print(f"{what}: twenty limits from {least >> 10:,} to {most >> 10:,} KiB; {ends(statuses)}", flush=True)
 
 
 def main():

@@ -5,7 +5,7 @@ use crate::lines::{
     SEVENTH_DONE, SEVENTH_MOVE, SIX_MOVES, SPENT, TWO_USERS, TWO_USERS_AND_ONE_TOLD, USER,
     USER_THAT_MOVES, USER_THAT_MOVES_TOLD,
 };
-use crate::playing::{Device, OPENING, Played, Run, play, start_of};
+use crate::playing::{Device, NO_DEVICE, OPENING, Played, Run, play, start_of};
 use crate::rows::{HALVES, HALVES_OF_7, REPORT};
 use crate::serving::{SETTINGS, TWO_CALLS};
 use iss_edge::Action;
@@ -17,6 +17,7 @@ const EMPTY: Device = Device {
     size: 707,
     pieces: &[HALVES],
     lines: "",
+    ..NO_DEVICE
 };
 
 /// A device in halves that needs no turn for what is taken here.
@@ -65,6 +66,7 @@ static IN_HALVES: [Run; 10] = [
             size: 200,
             pieces: &[HALVES, b"\0\0\0\0\x2c\x3f\xff\xff\xff"],
             lines: "",
+            ..NO_DEVICE
         },
         input: USER,
         done: "S.E0",
@@ -131,6 +133,7 @@ static IN_HALVES: [Run; 10] = [
             size: 8000,
             pieces: &[HALVES_OF_7],
             lines: SETTINGS,
+            ..NO_DEVICE
         },
         levels: &[],
         ..TWO_CALLS

@@ -1,66 +1,14 @@
 //! Worked runs on a device that is nearly full: it turns before the first record of each.
 use crate::lines::{DAY, DAY_TOLD};
-use crate::playing::{Device, OPENING, Run, Waiting};
+use crate::playing::{Device, NO_DEVICE, OPENING, Run, Waiting};
 use crate::rows::HALVES;
-
-/// A user with a long name, who is suspended and taken up again: 50 records.
-const PADDING: &str = r#"{"type":"user","token":"q10","user":"wwwwwwwwwwwwwwwwwwwwwwwwwwwwwwwwwwww"}
-{"type":"move","token":"q11","user":"wwwwwwwwwwwwwwwwwwwwwwwwwwwwwwwwwwww","to":"SUSPENDED"}
-{"type":"move","token":"q12","user":"wwwwwwwwwwwwwwwwwwwwwwwwwwwwwwwwwwww","to":"ACTIVE"}
-{"type":"move","token":"q13","user":"wwwwwwwwwwwwwwwwwwwwwwwwwwwwwwwwwwww","to":"SUSPENDED"}
-{"type":"move","token":"q14","user":"wwwwwwwwwwwwwwwwwwwwwwwwwwwwwwwwwwww","to":"ACTIVE"}
-{"type":"move","token":"q15","user":"wwwwwwwwwwwwwwwwwwwwwwwwwwwwwwwwwwww","to":"SUSPENDED"}
-{"type":"move","token":"q16","user":"wwwwwwwwwwwwwwwwwwwwwwwwwwwwwwwwwwww","to":"ACTIVE"}
-{"type":"move","token":"q17","user":"wwwwwwwwwwwwwwwwwwwwwwwwwwwwwwwwwwww","to":"SUSPENDED"}
-{"type":"move","token":"q18","user":"wwwwwwwwwwwwwwwwwwwwwwwwwwwwwwwwwwww","to":"ACTIVE"}
-{"type":"move","token":"q19","user":"wwwwwwwwwwwwwwwwwwwwwwwwwwwwwwwwwwww","to":"SUSPENDED"}
-{"type":"move","token":"q20","user":"wwwwwwwwwwwwwwwwwwwwwwwwwwwwwwwwwwww","to":"ACTIVE"}
-{"type":"move","token":"q21","user":"wwwwwwwwwwwwwwwwwwwwwwwwwwwwwwwwwwww","to":"SUSPENDED"}
-{"type":"move","token":"q22","user":"wwwwwwwwwwwwwwwwwwwwwwwwwwwwwwwwwwww","to":"ACTIVE"}
-{"type":"move","token":"q23","user":"wwwwwwwwwwwwwwwwwwwwwwwwwwwwwwwwwwww","to":"SUSPENDED"}
-{"type":"move","token":"q24","user":"wwwwwwwwwwwwwwwwwwwwwwwwwwwwwwwwwwww","to":"ACTIVE"}
-{"type":"move","token":"q25","user":"wwwwwwwwwwwwwwwwwwwwwwwwwwwwwwwwwwww","to":"SUSPENDED"}
-{"type":"move","token":"q26","user":"wwwwwwwwwwwwwwwwwwwwwwwwwwwwwwwwwwww","to":"ACTIVE"}
-{"type":"move","token":"q27","user":"wwwwwwwwwwwwwwwwwwwwwwwwwwwwwwwwwwww","to":"SUSPENDED"}
-{"type":"move","token":"q28","user":"wwwwwwwwwwwwwwwwwwwwwwwwwwwwwwwwwwww","to":"ACTIVE"}
-{"type":"move","token":"q29","user":"wwwwwwwwwwwwwwwwwwwwwwwwwwwwwwwwwwww","to":"SUSPENDED"}
-{"type":"move","token":"q30","user":"wwwwwwwwwwwwwwwwwwwwwwwwwwwwwwwwwwww","to":"ACTIVE"}
-{"type":"move","token":"q31","user":"wwwwwwwwwwwwwwwwwwwwwwwwwwwwwwwwwwww","to":"SUSPENDED"}
-{"type":"move","token":"q32","user":"wwwwwwwwwwwwwwwwwwwwwwwwwwwwwwwwwwww","to":"ACTIVE"}
-{"type":"move","token":"q33","user":"wwwwwwwwwwwwwwwwwwwwwwwwwwwwwwwwwwww","to":"SUSPENDED"}
-{"type":"move","token":"q34","user":"wwwwwwwwwwwwwwwwwwwwwwwwwwwwwwwwwwww","to":"ACTIVE"}
-{"type":"move","token":"q35","user":"wwwwwwwwwwwwwwwwwwwwwwwwwwwwwwwwwwww","to":"SUSPENDED"}
-{"type":"move","token":"q36","user":"wwwwwwwwwwwwwwwwwwwwwwwwwwwwwwwwwwww","to":"ACTIVE"}
-{"type":"move","token":"q37","user":"wwwwwwwwwwwwwwwwwwwwwwwwwwwwwwwwwwww","to":"SUSPENDED"}
-{"type":"move","token":"q38","user":"wwwwwwwwwwwwwwwwwwwwwwwwwwwwwwwwwwww","to":"ACTIVE"}
-{"type":"move","token":"q39","user":"wwwwwwwwwwwwwwwwwwwwwwwwwwwwwwwwwwww","to":"SUSPENDED"}
-{"type":"move","token":"q40","user":"wwwwwwwwwwwwwwwwwwwwwwwwwwwwwwwwwwww","to":"ACTIVE"}
-{"type":"move","token":"q41","user":"wwwwwwwwwwwwwwwwwwwwwwwwwwwwwwwwwwww","to":"SUSPENDED"}
-{"type":"move","token":"q42","user":"wwwwwwwwwwwwwwwwwwwwwwwwwwwwwwwwwwww","to":"ACTIVE"}
-{"type":"move","token":"q43","user":"wwwwwwwwwwwwwwwwwwwwwwwwwwwwwwwwwwww","to":"SUSPENDED"}
-{"type":"move","token":"q44","user":"wwwwwwwwwwwwwwwwwwwwwwwwwwwwwwwwwwww","to":"ACTIVE"}
-{"type":"move","token":"q45","user":"wwwwwwwwwwwwwwwwwwwwwwwwwwwwwwwwwwww","to":"SUSPENDED"}
-{"type":"move","token":"q46","user":"wwwwwwwwwwwwwwwwwwwwwwwwwwwwwwwwwwww","to":"ACTIVE"}
-{"type":"move","token":"q47","user":"wwwwwwwwwwwwwwwwwwwwwwwwwwwwwwwwwwww","to":"SUSPENDED"}
-{"type":"move","token":"q48","user":"wwwwwwwwwwwwwwwwwwwwwwwwwwwwwwwwwwww","to":"ACTIVE"}
-{"type":"move","token":"q49","user":"wwwwwwwwwwwwwwwwwwwwwwwwwwwwwwwwwwww","to":"SUSPENDED"}
-{"type":"move","token":"q50","user":"wwwwwwwwwwwwwwwwwwwwwwwwwwwwwwwwwwww","to":"ACTIVE"}
-{"type":"move","token":"q51","user":"wwwwwwwwwwwwwwwwwwwwwwwwwwwwwwwwwwww","to":"SUSPENDED"}
-{"type":"move","token":"q52","user":"wwwwwwwwwwwwwwwwwwwwwwwwwwwwwwwwwwww","to":"ACTIVE"}
-{"type":"move","token":"q53","user":"wwwwwwwwwwwwwwwwwwwwwwwwwwwwwwwwwwww","to":"SUSPENDED"}
-{"type":"move","token":"q54","user":"wwwwwwwwwwwwwwwwwwwwwwwwwwwwwwwwwwww","to":"ACTIVE"}
-{"type":"move","token":"q55","user":"wwwwwwwwwwwwwwwwwwwwwwwwwwwwwwwwwwww","to":"SUSPENDED"}
-{"type":"move","token":"q56","user":"wwwwwwwwwwwwwwwwwwwwwwwwwwwwwwwwwwww","to":"ACTIVE"}
-{"type":"move","token":"q57","user":"wwwwwwwwwwwwwwwwwwwwwwwwwwwwwwwwwwww","to":"SUSPENDED"}
-{"type":"move","token":"q58","user":"wwwwwwwwwwwwwwwwwwwwwwwwwwwwwwwwwwww","to":"ACTIVE"}
-{"type":"move","token":"q59","user":"wwwwwwwwwwwwwwwwwwwwwwwwwwwwwwwwwwww","to":"SUSPENDED"}
-"#;
 
 /// A device in halves of 2882 bytes each. Its 50 records leave 29 bytes, and the first record of each run needs 30.
 const PADDED: Device = Device {
     size: 5781,
     pieces: &[HALVES],
-    lines: PADDING,
+    moves: 49,
+    ..NO_DEVICE
 };
 
 /// How many bytes the image of those 50 records has.

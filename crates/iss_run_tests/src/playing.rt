@@ -15,6 +15,8 @@ pub(crate) enum Come<'a> {
     /// A whole request with this line.
     Asks(u32, &'a str),
     More(u32, &'a [u8]),
+    /// As many bytes `a`.
+    Letters(u32, usize),
     Ended(u32),
     Time(u64),
 }
@@ -25,6 +27,8 @@ pub(crate) struct Device {
     pub(crate) size: usize,
     pub(crate) pieces: &'static [&'static [u8]],
     pub(crate) lines: &'static str,
+    /// How many times a user of 36 letters has moved before, who makes a record more; there is no such user if it is 0.
+    pub(crate) moves: usize,
 }
 
 /// A run: what it begins with, and what it has to do.
@@ -64,15 +68,19 @@ pub(crate) struct Waiting {
     pub(crate) until: usize,
 }
 
+/// A device of no bytes.
+pub(crate) const NO_DEVICE: Device = Device {
+    size: 0,
+    pieces: &[],
+    lines: "",
+    moves: 0,
+};
+
 /// A replay of no lines: it opens the device and writes what waits for the gateway.
 pub(crate) const OPENING: Run = Run {
     what: "an opening",
     words: &["replay", "d"],
-    device: Device {
-        size: 0,
-        pieces: &[],
-        lines: "",
-    },
+    device: NO_DEVICE,
     input: "",
     comes: &[],
     fails: &[],
@@ -101,8 +109,20 @@ pub(crate) fn play(
     device: &[u8],
     failing: u64,
 ) -> Result<Played, AllocError> {
+    play_lines(alloc, row, row.input, comes, device, failing)
+}
+
+/// The same with these lines in the place of the run's own.
+fn play_lines(
+    alloc: Global,
+    row: &Run,
+    lines: &str,
+    comes: &[Come],
+    device: &[u8],
+    failing: u64,
+) -> Result<Played, AllocError> {
     let words = words_of(alloc, row.words)?;
-    let mut edge = edge_of(alloc, row, comes, device, failing)?;
+    let mut edge = edge_of(alloc, row, lines, comes, device, failing)?;
     let status = status_of(alloc, words.as_slice(), &mut edge);
     Ok(Played { status, edge })
 }
@@ -123,6 +143,7 @@ fn words_of(alloc: Global, words: &[&str]) -> Result<Vec<String>, AllocError> {
 fn edge_of(
     alloc: Global,
     row: &Run,
+    lines: &str,
     comes: &[Come],
     device: &[u8],
     failing: u64,
@@ -132,7 +153,7 @@ fn edge_of(
         return Err(AllocError);
     }
     let device = device.to_vec(alloc)?;
-    let input = row.input.as_bytes().to_vec(alloc)?;
+    let input = lines.as_bytes().to_vec(alloc)?;
     let mut fails = row.fails.to_vec(alloc)?;
     fails.push(failing)?;
     MemoryEdge::new(alloc, device, input, script, fails)
@@ -151,9 +172,16 @@ fn item_of(alloc: Global, come: Come) -> Result<Script, AllocError> {
         Come::Client(ch) => Ok(Script::Client(Channel(ch))),
         Come::Asks(ch, line) => Ok(Script::More(Channel(ch), request(alloc, line)?)),
         Come::More(ch, bytes) => Ok(Script::More(Channel(ch), Bytes::from(bytes.to_vec(alloc)?))),
+        Come::Letters(ch, count) => Ok(Script::More(Channel(ch), letters(alloc, count)?)),
         Come::Ended(ch) => Ok(Script::Ended(Channel(ch))),
         Come::Time(at) => Ok(Script::Time(at)),
     }
+}
+
+fn letters(alloc: Global, count: usize) -> Result<Bytes, AllocError> {
+    let mut bytes = Vec::new(alloc);
+    bytes.resize(count, b'a')?;
+    Ok(Bytes::from(bytes))
 }
 
 /// A whole request with this line.
@@ -214,6 +242,8 @@ fn is_known(known: &[u32], ch: u32) -> bool
     known.iter().any(|number| *number == ch)
 }
 
+const MOVING_USER: &str = "wwwwwwwwwwwwwwwwwwwwwwwwwwwwwwwwwwww";
+
 /// The device that a run begins with.
 pub(crate) fn start_of(alloc: Global, device: &Device) -> Result<Vec<u8>, AllocError> {
     let mut bytes = Vec::new(alloc);
@@ -221,13 +251,38 @@ pub(crate) fn start_of(alloc: Global, device: &Device) -> Result<Vec<u8>, AllocE
         bytes.extend_from_slice(*piece)?;
     }
     bytes.resize(device.size, 0)?;
-    if device.lines.is_empty() {
-        return Ok(bytes);
+    if device.moves > 0 {
+        let moves = moves_of(alloc, device.moves)?;
+        bytes = filled(alloc, bytes.as_slice(), moves.as_str())?;
     }
-    let filling = Run {
-        input: device.lines,
-        ..OPENING
-    };
-    let filled = play(alloc, &filling, &[], bytes.as_slice(), 0)?;
-    filled.edge.device().to_vec(alloc)
+    if !device.lines.is_empty() {
+        bytes = filled(alloc, bytes.as_slice(), device.lines)?;
+    }
+    Ok(bytes)
+}
+
+/// A device with the records that these lines make.
+fn filled(alloc: Global, device: &[u8], lines: &str) -> Result<Vec<u8>, AllocError> {
+    let played = play_lines(alloc, &OPENING, lines, &[], device, 0)?;
+    played.edge.device().to_vec(alloc)
+}
+
+/// A user, and then this many moves of the user, to SUSPENDED and to ACTIVE in turns. Tokens go from q10 on.
+fn moves_of(alloc: Global, count: usize) -> Result<String, AllocError> {
+    let mut lines = format!(in alloc;
+        "{{\"type\":\"user\",\"token\":\"q10\",\"user\":\"{MOVING_USER}\"}}\n"
+    )?;
+    let mut state = "SUSPENDED";
+    for number in (11usize..).take(count) {
+        let line = format!(in alloc;
+            "{{\"type\":\"move\",\"token\":\"q{number}\",\"user\":\"{MOVING_USER}\",\"to\":\"{state}\"}}\n"
+        )?;
+        lines.push_str(line.as_str())?;
+        state = if state == "ACTIVE" {
+            "SUSPENDED"
+        } else {
+            "ACTIVE"
+        };
+    }
+    Ok(lines)
 }

@@ -6,7 +6,7 @@ use crate::lines::{
     REQUEST_OF_7, TWO_TIMEOUTS_AND_AN_EXPIRY, TWO_TIMEOUTS_AND_AN_EXPIRY_TOLD, USER,
     USER_AND_A_TIME, USER_AND_IDLE, USER_DONE,
 };
-use crate::playing::{Device, OPENING, Run};
+use crate::playing::{Device, NO_DEVICE, OPENING, Run};
 use crate::rows::{HEADER, HEADER_OF_7, REPORT, USER_RECORD};
 
 /// Runs on devices that stand for records, each of which may stop.
@@ -17,6 +17,7 @@ static LINES: [Run; 14] = [
             size: 100,
             pieces: &[HEADER],
             lines: "",
+            ..NO_DEVICE
         },
         input: USER,
         done: "S.W.S.W.S.E0",
@@ -26,6 +27,7 @@ static LINES: [Run; 14] = [
             size: 100,
             pieces: &[HEADER, USER_RECORD],
             lines: "",
+            ..NO_DEVICE
         }),
         calls: 11,
         levels: &[1],
@@ -37,6 +39,7 @@ static LINES: [Run; 14] = [
             size: 100,
             pieces: &[HEADER],
             lines: "",
+            ..NO_DEVICE
         },
         input: ONE_USER_AND_A_HALF,
         done: "S.W.S.W.S.E0E0",
@@ -52,6 +55,7 @@ static LINES: [Run; 14] = [
             size: 100,
             pieces: &[HEADER],
             lines: "",
+            ..NO_DEVICE
         },
         input: ONE_USER_AND_A_HALF,
         fails: &[11],
@@ -68,6 +72,7 @@ static LINES: [Run; 14] = [
             size: 75,
             pieces: &[HEADER],
             lines: "",
+            ..NO_DEVICE
         },
         input: FIVE_USERS,
         done: "S.W.S.W.S.E0W.S.W.S.E0E0W.S.W.S.E0E0E0",
@@ -83,6 +88,7 @@ static LINES: [Run; 14] = [
             size: 75,
             pieces: &[HEADER],
             lines: USER,
+            ..NO_DEVICE
         },
         input: USER_AND_A_TIME,
         done: "S.E0E0",
@@ -92,6 +98,7 @@ static LINES: [Run; 14] = [
             size: 75,
             pieces: &[HEADER, USER_RECORD],
             lines: "",
+            ..NO_DEVICE
         }),
         calls: 10,
         levels: &[1, 1],
@@ -103,6 +110,7 @@ static LINES: [Run; 14] = [
             size: 1000,
             pieces: &[HEADER],
             lines: "",
+            ..NO_DEVICE
         },
         input: REPEAT_AT_THE_DEADLINE,
         done: "S.W.S.W.S.E0W.S.W.S.E0W.S.W.S.E0W.S.W.S.E0W.S.W.S.E0E0E0E0",
@@ -118,6 +126,7 @@ static LINES: [Run; 14] = [
             size: 1000,
             pieces: &[HEADER],
             lines: "",
+            ..NO_DEVICE
         },
         input: EARLY_ACKNOWLEDGEMENT,
         done: "S.W.S.W.S.E0W.S.W.S.E0W.S.W.S.E0W.S.W.S.E0E0W.S.W.S.E0E0E0W.S.W.S.E0",
@@ -133,6 +142,7 @@ static LINES: [Run; 14] = [
             size: 1000,
             pieces: &[HEADER],
             lines: "",
+            ..NO_DEVICE
         },
         input: TWO_TIMEOUTS_AND_AN_EXPIRY,
         done: "S.W.S.W.S.E0W.S.W.S.E0W.S.W.S.E0W.S.W.S.E0W.S.W.S.E0W.S.W.S.E0W.S.W.S.E0W.S.W.S.E0E0E0E0E0E0",
@@ -148,6 +158,7 @@ static LINES: [Run; 14] = [
             size: 1000,
             pieces: &[HEADER],
             lines: ASKED,
+            ..NO_DEVICE
         },
         done: "S.E0",
         heard: "E0T0",
@@ -162,6 +173,7 @@ static LINES: [Run; 14] = [
             size: 1000,
             pieces: &[HEADER_OF_7],
             lines: ASKED,
+            ..NO_DEVICE
         },
         done: "S.E0",
         heard: "E0T0",
@@ -176,6 +188,7 @@ static LINES: [Run; 14] = [
             size: 1000,
             pieces: &[HEADER],
             lines: ASKED,
+            ..NO_DEVICE
         },
         input: FUNDED,
         done: "S.E0W.S.W.S.E0",
@@ -191,6 +204,7 @@ static LINES: [Run; 14] = [
             size: 1000,
             pieces: &[HEADER],
             lines: ASKED,
+            ..NO_DEVICE
         },
         input: REPEATED,
         done: "S.E0W.S.W.S.E0E0E0E0",
@@ -200,6 +214,7 @@ static LINES: [Run; 14] = [
             size: 1000,
             pieces: &[HEADER],
             lines: REPEAT_AT_THE_DEADLINE,
+            ..NO_DEVICE
         }),
         calls: 23,
         levels: &[4, 5, 5, 5, 5],
@@ -211,6 +226,7 @@ static LINES: [Run; 14] = [
             size: 1000,
             pieces: &[HEADER],
             lines: EARLY_ACKNOWLEDGEMENT,
+            ..NO_DEVICE
         },
         done: "S.",
         heard: "T0",
@@ -225,6 +241,7 @@ static LINES: [Run; 14] = [
             size: 1000,
             pieces: &[HEADER],
             lines: HOLDING,
+            ..NO_DEVICE
         },
         done: "S.E0E0E0E0E0E0",
         heard: "E0E0E0E0E0E0",

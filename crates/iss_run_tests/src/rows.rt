@@ -3,7 +3,7 @@ use crate::lines::{
     ONE_USER_AND_A_HALF, ONE_USER_REPORTED, TWO_TIMEOUTS_AND_AN_EXPIRY,
     TWO_TIMEOUTS_AND_AN_EXPIRY_TOLD, TWO_USERS, TWO_USERS_DONE, USER, USER_DONE,
 };
-use crate::playing::{Device, OPENING, Run};
+use crate::playing::{Device, NO_DEVICE, OPENING, Run};
 
 /// The header of instance 0.
 pub(crate) const HEADER: &[u8] = b"\x01ISS1\x01\0\0\0\0\0\0\0\0\0\0";
@@ -116,12 +116,14 @@ static PLAIN: [Run; 10] = [
             size: 100,
             pieces: &[&[9; 100]],
             lines: "",
+            ..NO_DEVICE
         },
         done: "W0S.W1S.W0S.",
         leaves: Some(Device {
             size: 100,
             pieces: &[HALVES_OF_7, NOTHING_IN_HALVES, &[9; 78]],
             lines: "",
+            ..NO_DEVICE
         }),
         calls: 6,
         ..FORMAT
@@ -132,12 +134,14 @@ static PLAIN: [Run; 10] = [
             size: 99,
             pieces: &[&[9; 99]],
             lines: "",
+            ..NO_DEVICE
         },
         status: 4,
         leaves: Some(Device {
             size: 99,
             pieces: &[&[9; 99]],
             lines: "",
+            ..NO_DEVICE
         }),
         ..FORMAT
     },
@@ -147,6 +151,7 @@ static PLAIN: [Run; 10] = [
             size: 100,
             pieces: &[HEADER, USER_RECORD, TORN, RECORD_LEFT],
             lines: "",
+            ..NO_DEVICE
         },
         input: USER,
         done: "S.W.S.E0",
@@ -156,6 +161,7 @@ static PLAIN: [Run; 10] = [
             size: 100,
             pieces: &[HEADER, USER_RECORD, &[0], RECORD_LEFT],
             lines: "",
+            ..NO_DEVICE
         }),
         ..OPENING
     },
@@ -165,6 +171,7 @@ static PLAIN: [Run; 10] = [
             size: 100,
             pieces: &[HEADER, USER_RECORD, TORN],
             lines: "",
+            ..NO_DEVICE
         },
         done: "S.W.S.",
         heard: "T0",
@@ -173,6 +180,7 @@ static PLAIN: [Run; 10] = [
             size: 100,
             pieces: &[HEADER, USER_RECORD],
             lines: "",
+            ..NO_DEVICE
         }),
         calls: 9,
         ..OPENING
@@ -183,6 +191,7 @@ static PLAIN: [Run; 10] = [
             size: 100,
             pieces: &[HEADER, USER_RECORD, TORN],
             lines: "",
+            ..NO_DEVICE
         },
         done: "S.W.S.E0",
         heard: "E0",
@@ -191,6 +200,7 @@ static PLAIN: [Run; 10] = [
             size: 100,
             pieces: &[HEADER, USER_RECORD],
             lines: "",
+            ..NO_DEVICE
         }),
         calls: 9,
         ..REPORT
@@ -205,6 +215,7 @@ static UNOPENED: [Run; 14] = [
             size: 0,
             pieces: &[],
             lines: "",
+            ..NO_DEVICE
         },
         ..REFUSED
     },
@@ -214,6 +225,7 @@ static UNOPENED: [Run; 14] = [
             size: 16,
             pieces: &[HEADER],
             lines: "",
+            ..NO_DEVICE
         },
         ..REFUSED
     },
@@ -223,6 +235,7 @@ static UNOPENED: [Run; 14] = [
             size: 17,
             pieces: &[b"\0ISS1\x01"],
             lines: "",
+            ..NO_DEVICE
         },
         ..REFUSED
     },
@@ -232,6 +245,7 @@ static UNOPENED: [Run; 14] = [
             size: 17,
             pieces: &[b"\x02ISS1\x01"],
             lines: "",
+            ..NO_DEVICE
         },
         ..REFUSED
     },
@@ -241,6 +255,7 @@ static UNOPENED: [Run; 14] = [
             size: 27,
             pieces: &[b"\x01ISS1\x03"],
             lines: "",
+            ..NO_DEVICE
         },
         ..REFUSED
     },
@@ -250,6 +265,7 @@ static UNOPENED: [Run; 14] = [
             size: 26,
             pieces: &[HALVES],
             lines: "",
+            ..NO_DEVICE
         },
         ..REFUSED
     },
@@ -259,6 +275,7 @@ static UNOPENED: [Run; 14] = [
             size: 100,
             pieces: &[HALVES, b"\0\0\0\0\x25"],
             lines: "",
+            ..NO_DEVICE
         },
         ..REFUSED
     },
@@ -268,6 +285,7 @@ static UNOPENED: [Run; 14] = [
             size: 300,
             pieces: &[HALVES, BAD_IMAGE],
             lines: "",
+            ..NO_DEVICE
         },
         ..REFUSED
     },
@@ -277,6 +295,7 @@ static UNOPENED: [Run; 14] = [
             size: 100,
             pieces: &[HEADER, b"\x01\0\0\xff\xff"],
             lines: "",
+            ..NO_DEVICE
         },
         done: "S.",
         ..REFUSED
@@ -287,6 +306,7 @@ static UNOPENED: [Run; 14] = [
             size: 48,
             pieces: &[HEADER, b"\x01\0\0\0\0"],
             lines: "",
+            ..NO_DEVICE
         },
         done: "S.",
         ..REFUSED
@@ -297,6 +317,7 @@ static UNOPENED: [Run; 14] = [
             size: 9000,
             pieces: &[HEADER, b"\x01\0\0\x20\x01"],
             lines: "",
+            ..NO_DEVICE
         },
         done: "S.",
         ..REFUSED
@@ -307,6 +328,7 @@ static UNOPENED: [Run; 14] = [
             size: 48,
             pieces: &[HEADER, b"\x01\0\0\0\x1b"],
             lines: "",
+            ..NO_DEVICE
         },
         done: "S.",
         ..REFUSED
@@ -317,6 +339,7 @@ static UNOPENED: [Run; 14] = [
             size: 100,
             pieces: &[HEADER, b"\x01\0\0\0\x01\x63"],
             lines: "",
+            ..NO_DEVICE
         },
         done: "S.",
         ..REFUSED
@@ -327,6 +350,7 @@ static UNOPENED: [Run; 14] = [
             size: 100,
             pieces: &[HEADER, USER_RECORD, USER_RECORD],
             lines: "",
+            ..NO_DEVICE
         },
         done: "S.",
         ..REFUSED

@@ -1,5 +1,5 @@
 //! Runs that serve clients, with a gateway on the channels that are dialled.
-use crate::playing::{Come, Device, OPENING, Run};
+use crate::playing::{Come, Device, NO_DEVICE, OPENING, Run};
 use crate::rows::HEADER_OF_7;
 
 /// A product that a gateway funds, a user and a card.
@@ -61,6 +61,7 @@ pub(crate) const SETTLED: Device = Device {
     size: 1000,
     pieces: &[HEADER_OF_7],
     lines: SETTINGS,
+    ..NO_DEVICE
 };
 
 pub(crate) const SERVE: Run = Run {
