@@ -1,0 +1,5 @@
+pub mod Reaching
+pub mod Following
+pub mod Becoming
+pub mod Listed
+pub mod Meeting

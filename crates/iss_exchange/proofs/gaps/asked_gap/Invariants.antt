@@ -1,0 +1,7 @@
+use Rattle.std.proofs.Common.{◌≡◌, take}
+use Rattle.std.specs.List.{filter_map}
+use Rattle.iss_exchange.specs.Amounts.{amount_asked}
+use Rattle.iss_exchange.proofs.gaps.asked_gap.Given as goal
+
+abbrev pub invariant-loop-opened : goal.invariant-loop-opened
+invariant-loop-opened l = l.amounts ≡ filter_map (amount_asked l.instance l.gateway.books l.currency) (take l.opened-index l.asked)

@@ -1,0 +1,3 @@
+pub mod Values
+pub mod Amounts
+pub mod Standing
