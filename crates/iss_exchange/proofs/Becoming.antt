@@ -24,11 +24,10 @@ use Rattle.iss_delivery.specs.Delivering.{AllAreSendable, IsSendable}
 use Rattle.iss_exchange_laws.specs.Exchanges.{Answered, Exchange, at_place, may_come, with_answer, with_crash, with_input, with_input_of, with_release}
 use Rattle.iss_exchange_laws.specs.declared.moves.Sent.{Sent}
 use Rattle.iss_exchange_laws.specs.Messages.{input_given, message_sent, sent_by}
-use Rattle.iss_exchange_laws.specs.Rules.{delivered, heard_if}
 use Rattle.iss_exchange_laws.proofs.Records.{all_fewer, take_fewer, take_longer, take_next}
 use Rattle.iss_exchange.specs.declared.sides.Answer.{Answer}
 use Rattle.iss_exchange.specs.declared.sides.Sides.{Sides}
-use Rattle.iss_exchange.specs.Standing.{AreStanding, AreStamped, Becomes, IsOrderly, answered, exchange_in, with_record}
+use Rattle.iss_exchange.specs.Standing.{AreStanding, AreStamped, Becomes, IsOrderly, answered, delivered_in, exchange_in, heard_in, with_record}
 
 -- nothing changes ----
 
@@ -220,12 +219,8 @@ sendable_at place xs what e h = by (nat_eq place 0) e
     by true e = cc
     by false e = sendable_get xs (place - 1) what e h
 
--- what comes to the gateway by what was sent, if it was
-abbrev pub delivered_in : Sides → Option Sent → Exchange
-delivered_in s what = delivered (call_uuid s.instance) s.gateway.most s.gateway.limit (exchange_in s) what
-
 pub comes_there : (s : Sides) (place : ℕ) (what : Sent) → at_place place s.sent.items ≡ Some what
-    → heard_if s.gateway.most s.gateway.limit (exchange_in s) what (message_sent (call_uuid s.instance) what) ≡ delivered_in s (at_place place s.sent.items)
+    → heard_in s what (message_sent (call_uuid s.instance) what) ≡ delivered_in s (at_place place s.sent.items)
 comes_there s place what e = ap (delivered_in s) (sym e)
 
 pub nothing_comes : (s : Sides) (place : ℕ) → at_place place s.sent.items ≡ None → AreStanding s → Becomes s (delivered_in s (at_place place s.sent.items)) s

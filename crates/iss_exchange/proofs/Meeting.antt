@@ -10,7 +10,6 @@ use Rattle.iss_model.specs.rules.Activity.{CallNow}
 use Rattle.iss_model.specs.rules.Facts.{Facts}
 use Rattle.iss_model.specs.rules.Histories.{IsLegal}
 use Rattle.iss_model.specs.state.Cores.{core_facts, core_of}
-use Rattle.iss_model.specs.texts.CallTokens.{call_uuid}
 use Rattle.iss_agreement.proofs.CoreOfBook.{facts_history}
 use Rattle.iss_state.specs.Numbers.{CallsNumberedFrom}
 use Rattle.iss_state.specs.Sound.{AreInForm}
@@ -23,18 +22,13 @@ use Rattle.iss_exchange_laws.specs.declared.moves.Move.{Move}
 use Rattle.iss_exchange_laws.specs.Exchanges.{Exchange}
 use Rattle.iss_exchange_laws.specs.Gaps.{Amount, sum_of}
 use Rattle.iss_exchange_laws.specs.Laws.{facts_of}
-use Rattle.iss_exchange_laws.specs.Rules.{moved}
 use Rattle.iss_exchange.specs.declared.gaps.Gap.{Gap}
 use Rattle.iss_exchange.specs.declared.sides.Sides.{Sides}
 use Rattle.iss_exchange.specs.Amounts.{amount_asked, amount_noted, amount_voided}
-use Rattle.iss_exchange.specs.Standing.{AreStanding, Becomes, exchange_in, shown}
+use Rattle.iss_exchange.specs.Standing.{AreStanding, Becomes, exchange_in, moved_in, shown}
 use Rattle.iss_exchange.specs.Values.{EmptyIfSettled, ExchangeNow, IsReached, Meets, asked_of, moved_on, noted_of, voided_of}
 use Rattle.iss_exchange.proofs.Listed.{asked_so, noted_so, voided_so}
 use Rattle.iss_exchange.proofs.Reaching.{reached_even, reached_meets, reached_more}
-
--- what both sides come to by a move
-abbrev pub moved_in : Sides → Move → Exchange
-moved_in s m = moved (call_uuid s.instance) s.gateway.most s.gateway.limit (exchange_in s) m
 
 abbrev as_now : ℕ → ℕ → ℕ → Exchange → ExchangeNow
 as_now instance most limit x = record { instance = instance; most = most; limit = limit; now = x }

@@ -1,13 +1,18 @@
 -- How what the code keeps stands for an exchange of the definitions.
-use Rattle.std.specs.Prelude.{◌≡◌, ◌<◌, ◌≤◌, true, List, [], ◌∷◌, ◌++◌, length, map, take}
+use Rattle.std.specs.Prelude.{◌≡◌, ◌<◌, ◌≤◌, true, List, [], ◌∷◌, ◌++◌, length, map, take, Option}
 use Rattle.std.specs.List.{list_all}
 use Rattle.iss_model.specs.declared.input.Record.{Record}
 use Rattle.iss_model.specs.declared.limits.TheConstants.{INSTANCES, MOST_RECORDS}
 use Rattle.iss_model.specs.Forms.{is_stamp}
 use Rattle.iss_model.specs.rules.Histories.{IsLegal}
+use Rattle.iss_model.specs.texts.CallTokens.{call_uuid}
 use Rattle.iss_state.specs.Sound.{AreInForm}
 use Rattle.iss_core.specs.Values.{CoreStandsFor}
 use Rattle.iss_delivery.specs.Delivering.{AllAreSendable}
+use Rattle.iss_gateway.specs.declared.message.Message.{Message}
+use Rattle.iss_exchange_laws.specs.declared.moves.Move.{Move}
+use Rattle.iss_exchange_laws.specs.declared.moves.Sent.{Sent}
+use Rattle.iss_exchange_laws.specs.Rules.{delivered, heard_if, moved}
 use Rattle.iss_exchange_laws.specs.Exchanges.{Answered, Exchange}
 use Rattle.iss_exchange.specs.declared.sides.Answer.{Answer}
 use Rattle.iss_exchange.specs.declared.sides.Sides.{Sides}
@@ -63,3 +68,15 @@ pub record Becomes (before : Sides) (x : Exchange) (after : Sides) : Type 0 wher
   pub instance : after.instance ≡ before.instance
   pub most : after.gateway.most ≡ before.gateway.most
   pub limit : after.gateway.limit ≡ before.gateway.limit
+
+-- what both sides come to by a move
+abbrev pub moved_in : Sides → Move → Exchange
+moved_in s m = moved (call_uuid s.instance) s.gateway.most s.gateway.limit (exchange_in s) m
+
+-- by what was sent, if it reaches the gateway
+abbrev pub delivered_in : Sides → Option Sent → Exchange
+delivered_in s what = delivered (call_uuid s.instance) s.gateway.most s.gateway.limit (exchange_in s) what
+
+-- and by its message, if there is one
+abbrev pub heard_in : Sides → Sent → Option Message → Exchange
+heard_in s what m = heard_if s.gateway.most s.gateway.limit (exchange_in s) what m

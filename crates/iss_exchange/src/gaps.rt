@@ -31,7 +31,7 @@ pub(crate) fn asked_gap(
     currency: Currency,
 ) -> Result<Amounts, AllocError>
     requires { instance < INSTANCES }
-    ensures { IfOk result (λ amounts. amounts ≡ filter_map (amount_asked instance gateway.now.books currency) asked.now) }
+    ensures { IfOk result (λ found. found ≡ filter_map (amount_asked instance gateway.now.books currency) asked.now) }
 {
     let mut amounts = Amounts::new(alloc);
     for opened in asked {
@@ -49,7 +49,7 @@ pub(crate) fn voided_gap(
     currency: Currency,
 ) -> Result<Amounts, AllocError>
     requires { instance < INSTANCES }
-    ensures { IfOk result (λ amounts. amounts ≡ filter_map (amount_voided instance gateway.now.books pending.now currency) calls.now) }
+    ensures { IfOk result (λ found. found ≡ filter_map (amount_voided instance gateway.now.books pending.now currency) calls.now) }
 {
     let mut amounts = Amounts::new(alloc);
     for opened in calls {
@@ -64,7 +64,7 @@ pub(crate) fn noted_gap(
     pending: &[Notice],
     currency: Currency,
 ) -> Result<Amounts, AllocError>
-    ensures { IfOk result (λ amounts. amounts ≡ filter_map (amount_noted gateway.now.books currency) pending.now) }
+    ensures { IfOk result (λ found. found ≡ filter_map (amount_noted gateway.now.books currency) pending.now) }
 {
     let mut amounts = Amounts::new(alloc);
     for notice in pending {

@@ -1,5 +1,5 @@
 //! What each move does, by the rules.
-ghost use Rattle.std.specs.Prelude.{◌≡◌, ◌<◌, length, map, IfOk, IsTrue, slice_get, if◌then◌else◌};
+ghost use Rattle.std.specs.Prelude.{◌≡◌, ◌<◌, length, map, IfOk, IsTrue, slice_get};
 ghost use Rattle.iss_model.specs.declared.limits.TheConstants.{MOST_RECORDS};
 ghost use Rattle.iss_model.specs.Forms.{is_in_form, is_stamp};
 ghost use Rattle.iss_model.specs.rules.Histories.{Follows, history_of};
@@ -8,10 +8,10 @@ ghost use Rattle.iss_core.specs.Values.{CoreStandsFor};
 ghost use Rattle.iss_gateway.specs.declared.books.TheConstants.{MOST_HEARD};
 ghost use Rattle.iss_gateway.specs.Books.{count_of};
 ghost use Rattle.iss_delivery.specs.Delivering.{IsSendable};
-ghost use Rattle.iss_exchange_laws.specs.Exchanges.{at_place, is_gateways, may_come, with_answer, with_crash, with_input, with_input_of, with_release};
+ghost use Rattle.iss_exchange_laws.specs.declared.moves.Move.TheVariants.{Input as Own};
+ghost use Rattle.iss_exchange_laws.specs.Exchanges.{at_place, may_come, with_answer, with_crash, with_input, with_input_of, with_release};
 ghost use Rattle.iss_exchange_laws.specs.Messages.{input_given, message_sent};
-ghost use Rattle.iss_exchange_laws.specs.Rules.{delivered, heard_if, moved};
-ghost use Rattle.iss_exchange.specs.Standing.{AreStanding, Becomes, IsOrderly, answered, exchange_in, with_record};
+ghost use Rattle.iss_exchange.specs.Standing.{AreStanding, Becomes, IsOrderly, answered, delivered_in, exchange_in, heard_in, moved_in, with_record};
 
 use crate::cores::{core_of, push};
 use crate::forms::{is_in_form, is_stamp};
@@ -28,7 +28,7 @@ impl Sides {
         requires standing { AreStanding self }
         requires orderly { IsOrderly (exchange_in self) }
         requires room { count_of self.gateway.books < MOST_HEARD }
-        ensures { IfOk result (Becomes self (moved (call_uuid self.instance) self.gateway.most self.gateway.limit (exchange_in self) m.now)) }
+        ensures { IfOk result (Becomes self (moved_in self m.now)) }
     {
         match m {
             Move::Input(input, at) => self.take_own(alloc, input, *at),
@@ -44,7 +44,7 @@ impl Sides {
     fn take_own(self, alloc: Global, input: &Input, at: u64) -> Result<Sides, AllocError>
         requires standing { AreStanding self }
         requires orderly { IsOrderly (exchange_in self) }
-        ensures { IfOk result (Becomes self (if is_gateways input.now then exchange_in self else with_input (exchange_in self) input.now at)) }
+        ensures { IfOk result (Becomes self (moved_in self (Own input.now at))) }
     {
         if is_gateways(input) {
             return Ok(self);
@@ -141,7 +141,7 @@ impl Sides {
         requires standing { AreStanding self }
         requires orderly { IsOrderly (exchange_in self) }
         requires room { count_of self.gateway.books < MOST_HEARD }
-        ensures { IfOk result (Becomes self (delivered (call_uuid self.instance) self.gateway.most self.gateway.limit (exchange_in self) (at_place place self.sent.items))) }
+        ensures { IfOk result (Becomes self (delivered_in self (at_place place self.sent.items))) }
     {
         match sent_at(&self.sent, place) {
             Some(what) => self.hear(alloc, &what),
@@ -154,7 +154,7 @@ impl Sides {
         requires standing { AreStanding self }
         requires sendable { IsSendable what.now }
         requires room { count_of self.gateway.books < MOST_HEARD }
-        ensures { IfOk result (Becomes self (heard_if self.gateway.most self.gateway.limit (exchange_in self) what.now (message_sent (call_uuid self.instance) what.now))) }
+        ensures { IfOk result (Becomes self (heard_in self what.now (message_sent (call_uuid self.instance) what.now))) }
     {
         let Some(message) = deliver(alloc, self.instance, what)? else {
             return Ok(self);
