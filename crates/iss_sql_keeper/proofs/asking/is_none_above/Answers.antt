@@ -1,0 +1,16 @@
+use Rattle.std.proofs.Common.{◌≡◌, rules}
+use Rattle.sqlite.specs.Held.{state}
+use Rattle.iss_tables.specs.Calls.{IsOurs}
+use Rattle.iss_sql_keeper.proofs.ShownLemmas.{asked_stays, asked_leaves, above_held, if_ok}
+use Rattle.iss_sql_keeper.proofs.asking.is_none_above.Goals as goal
+
+pub returns-clause-stays : goal.returns-clause-stays
+returns-clause-stays g c =
+    let ours : IsOurs (state g.S.Store c.args.conn.now) = search rules in
+    asked_stays _ _ ours c.has_none_above.ensures.kept c.has_none_above.ensures.mode c.has_none_above.ensures.survives
+
+pub returns-clause-found : goal.returns-clause-found
+returns-clause-found g c =
+    let ours : IsOurs (state g.S.Store c.args.conn.now) = search rules in
+    if_ok _ c.has_none_above.result c.told.result c.told.ensures
+    (above_held _ _ ours c.has_none_above.ensures.kept c.has_none_above.ensures.mode c.has_none_above.ensures.survives c.requires c.what_is_shown_is_committed.ensures c.args.most.now c.has_none_above.result c.has_none_above.ensures.found)

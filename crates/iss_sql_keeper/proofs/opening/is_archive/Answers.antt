@@ -1,0 +1,7 @@
+use Rattle.std.proofs.Common.{◌≡◌, false, rules}
+use Rattle.sqlite.specs.Held.{state}
+use Rattle.iss_sql_keeper.proofs.ShownLemmas.{opened_kept}
+use Rattle.iss_sql_keeper.proofs.opening.is_archive.Goals as goal
+
+pub returns : goal.returns
+returns g c = opened_kept _ _ c.in_ok-head.head c.is_counted.result (c.in_ok-head.ensures.stays.mode c.requires) c.in_ok-head.ensures.read c.is_counted.ensures.stays c.is_counted.ensures.found

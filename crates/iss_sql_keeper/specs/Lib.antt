@@ -1,0 +1,5 @@
+pub mod Numbered
+pub mod Decoded
+pub mod Given
+pub mod Shown
+pub mod Standing

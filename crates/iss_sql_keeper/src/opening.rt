@@ -1,0 +1,56 @@
+//! Making the tables of an archive, and looking whether what is there is one.
+
+ghost use Rattle.std.specs.Prelude.{◌≡◌, pos, true, false, IfOk, IfSome, IsTrue};
+ghost use Rattle.std.specs.List.{list_all};
+ghost use Rattle.sqlite.specs.Held.{state};
+ghost use Rattle.iss_archive.specs.Archived.{posts_in};
+ghost use Rattle.iss_tables.specs.Steps.{is_at_most};
+ghost use Rattle.iss_sql_keeper.specs.Shown.{Holds, IsKept, Stays};
+
+use crate::asking::{head_in, is_none_above, told};
+use crate::columns::signed;
+use iss_archive::{Head, KeepFault};
+use iss_tables::make_tables;
+use sqlite::{Alter, Connection};
+
+/// How many postings the head counts, or `None` if that doesn't fit.
+fn posts_of(head: &Option<Head>) -> Option<i64>
+    ensures { IfSome result (λ posts. posts ≡ pos (posts_in head.now)) }
+{
+    match head {
+        Some(head) => signed(head.posts),
+        None => signed(0),
+    }
+}
+
+/// Whether no posting has a number above the head's count.
+fn is_counted<S: Alter>(conn: &mut Connection<S>, head: &Option<Head>) -> Result<bool, KeepFault>
+    requires { conn.old.in_transaction ≡ false }
+    ensures stays { Stays (state S.Store conn.old) (state S.Store conn.new) }
+    ensures found { IfOk result (λ yes. IsTrue yes → Holds (state S.Store conn.new) (λ trees. list_all (is_at_most (pos (posts_in head.now))) (trees 1) ≡ true)) }
+{
+    let Some(posts) = posts_of(head) else {
+        return Ok(false);
+    };
+    is_none_above(conn, &posts)
+}
+
+/// Whether a connection with both tables is one to an archive.
+fn is_archive<S: Alter>(conn: &mut Connection<S>) -> Result<bool, KeepFault>
+    requires { conn.old.in_transaction ≡ false }
+    ensures { IfOk result (λ yes. IsTrue yes → IsKept (state S.Store conn.new)) }
+{
+    let head = head_in(conn)?;
+    is_counted(conn, &head)
+}
+
+/// Makes the two tables if they aren't there, and says whether what is there is an archive.
+pub(crate) fn prepare<S: Alter>(conn: &mut Connection<S>) -> Result<bool, KeepFault>
+    ensures { IfOk result (λ yes. IsTrue yes → IsKept (state S.Store conn.new)) }
+{
+    told(make_tables(conn))?;
+    if !conn.is_autocommit() {
+        return Ok(false);
+    }
+    is_archive(conn)
+}

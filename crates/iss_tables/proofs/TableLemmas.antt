@@ -1,0 +1,71 @@
+-- What making the tables does.
+use Rattle.std.proofs.Common.{◌≡◌, ℕ, [], false, None, Ok, Err, Result, OnOk, sym, ap, subst, ◌∙◌}
+use Rattle.sqlite.specs.Command.TheVariants.{CreateTable, Nothing}
+use Rattle.sqlite.specs.Change.{created, next_tree}
+use Rattle.sqlite_catalog.specs.Change.{KeepsRows}
+use Rattle.sqlite.specs.Does.{Tally, lacks_sequence}
+use Rattle.sqlite.specs.Effect.{Database}
+use Rattle.sqlite.specs.State.{State, Writes, Executes, IsUnchanged}
+use Rattle.sqlite.proofs.Callers.{runs_as}
+use Rattle.iss_tables.specs.Tables.{head_table, post_table_at, no_schema, head_schema, archive_schema}
+use Rattle.iss_tables.specs.Texts.{make_head, make_post}
+use Rattle.iss_tables.proofs.Compiled.{head_made, post_made, head_creates, post_creates, head_stands, post_stands, texts_are, plain}
+use Rattle.sqlite.specs.declared.error.Error.{Error}
+use Rattle.iss_tables.specs.Steps.{HasHeadAlone, IsEmptyArchive}
+use Rattle.iss_tables.proofs.PostLemmas.{went, same_value}
+
+-- the table of the head is made, with no row
+pub makes_head : (old new : State) (count : ℕ) → old.now.schema ≡ no_schema → Executes make_head [] old new (Ok count) → (new.now.schema ≡ head_schema) × (new.now.trees 0 ≡ [])
+makes_head old new count has h =
+    let w = subst (λ t. Writes old new None CreateTable t [] count) texts_are.0 (runs_as make_head [] old new no_schema has CreateTable head_creates plain.0 count h) in
+    let all = went w.changed in
+    let first = went all.1 in
+    let made = first.1 in
+    let both : Ok made.table ≡ Ok head_table = sym made.defined ∙ head_made in
+    let same : made.table ≡ head_table = same_value both in
+    let schema : first.0.schema ≡ head_schema = made.is ∙ ap (λ s. created s made.table) has ∙ ap (created no_schema) same in
+    let plain : lacks_sequence first.0.schema ≡ false = ap lacks_sequence schema in
+    let now : new.now ≡ first.0 = ap (λ (p : Tally × Database). p.1) (same_value all.2) ∙ same_value (rw plain at first.2) in
+    (ap (λ (d : Database). d.schema) now ∙ schema, ap (λ (d : Database). d.trees 0) now ∙ subst (λ s. first.0.trees (next_tree s) ≡ []) has made.empty)
+
+-- the table of the postings is made, with no row
+pub makes_post : (old new : State) (count : ℕ) → old.now.schema ≡ head_schema → Executes make_post [] old new (Ok count) → (new.now.schema ≡ archive_schema) × (new.now.trees 1 ≡ []) × (new.now.trees 0 ≡ old.now.trees 0)
+makes_post old new count has h =
+    let w = subst (λ t. Writes old new None CreateTable t [] count) texts_are.1 (runs_as make_post [] old new head_schema has CreateTable post_creates plain.1 count h) in
+    let all = went w.changed in
+    let first = went all.1 in
+    let made = first.1 in
+    let both : Ok made.table ≡ Ok (post_table_at 0) = sym made.defined ∙ post_made in
+    let same : made.table ≡ post_table_at 0 = same_value both in
+    let schema : first.0.schema ≡ archive_schema = made.is ∙ ap (λ s. created s made.table) has ∙ ap (created head_schema) same in
+    let plain : lacks_sequence first.0.schema ≡ false = ap lacks_sequence schema in
+    let now : new.now ≡ first.0 = ap (λ (p : Tally × Database). p.1) (same_value all.2) ∙ same_value (rw plain at first.2) in
+    let kept : KeepsRows head_schema.tables old.now.trees first.0.trees = subst (λ s. KeepsRows s.tables old.now.trees first.0.trees) has made.others in (
+      ap (λ (d : Database). d.schema) now ∙ schema,
+      ap (λ (d : Database). d.trees 1) now ∙ subst (λ s. first.0.trees (next_tree s) ≡ []) has made.empty,
+      ap (λ (d : Database). d.trees 0) now ∙ kept.0,
+    )
+
+-- if the tables stand, nothing is done
+pub head_is_there : (old new : State) (count : ℕ) → old.now.schema ≡ archive_schema → Executes make_head [] old new (Ok count) → IsUnchanged old new
+head_is_there old new count has h = (runs_as make_head [] old new archive_schema has Nothing head_stands plain.2 count h).0
+
+post_is_there : (old new : State) (count : ℕ) → old.now.schema ≡ archive_schema → Executes make_post [] old new (Ok count) → IsUnchanged old new
+post_is_there old new count has h = (runs_as make_post [] old new archive_schema has Nothing post_stands plain.3 count h).0
+
+-- what each statement comes to
+pub head_made_by : (old new : State) (r : Result ℕ Error) → Executes make_head [] old new r → OnOk r (old.now.schema ≡ no_schema → HasHeadAlone new.now)
+head_made_by old new (Ok count) h = λ has. makes_head old new count has h
+head_made_by old new (Err e) h = tt
+
+pub head_left_by : (old new : State) (r : Result ℕ Error) → Executes make_head [] old new r → OnOk r (old.now.schema ≡ archive_schema → new.now ≡ old.now)
+head_left_by old new (Ok count) h = λ has. (head_is_there old new count has h).0.now_is
+head_left_by old new (Err e) h = tt
+
+pub post_made_by : (old new : State) (r : Result ℕ Error) → Executes make_post [] old new r → OnOk r (HasHeadAlone old.now → IsEmptyArchive new.now)
+post_made_by old new (Ok count) h = λ has. let made = makes_post old new count has.0 h in record { schema = made.0; head = made.2 ∙ has.1; posts = made.1 }
+post_made_by old new (Err e) h = tt
+
+pub post_left_by : (old new : State) (r : Result ℕ Error) → Executes make_post [] old new r → OnOk r (old.now.schema ≡ archive_schema → new.now ≡ old.now)
+post_left_by old new (Ok count) h = λ has. (post_is_there old new count has h).0.now_is
+post_left_by old new (Err e) h = tt

@@ -1,0 +1,8 @@
+use Rattle.std.proofs.Common.{◌≡◌, [], IsTrue, subst, rules}
+use Rattle.iss_tables.proofs.HeadReading.{none_above_by}
+use Rattle.iss_tables.proofs.asking.has_none_above.Goals as goal
+
+pub returns-clause-found : goal.returns-clause-found
+returns-clause-found g c clean =
+    let same : c.as_slice.result.now ≡ c.in_ok-rows.rows.items = search rules in
+    λ has none. none_above_by c.args.most.now _ _ (c.in_ok-rows.ensures.shown clean has) (subst (λ rows. rows ≡ []) same (c.is_empty.ensures none))

@@ -1,0 +1,126 @@
+-- What each call does to the connection, from the state before it to the state after. What is said of values is said while the disk is honest.
+use Rattle.std.specs.Prelude.{◌≡◌, ℤ, Bool, true, false, List, [], ◌∷◌, map, filter, Option, Result, IfOk, OnOk, IsTrue, Vec}
+use Rattle.std.specs.Global.{Global}
+use Rattle.std.specs.List.{list_all}
+use Rattle.sqlite.specs.declared.types.Value.TheVariants.{Int}
+use Rattle.sqlite.specs.declared.error.Error.{Error}
+use Rattle.sqlite.specs.Order.{Row}
+use Rattle.sqlite.specs.Tree.{Trees}
+use Rattle.sqlite.specs.Effect.{Database}
+use Rattle.sqlite.specs.State.{State, HasCleanDisk, KeepsCommit, Survives}
+use Rattle.iss_tables.specs.declared.adding.HeadColumns.{HeadColumns}
+use Rattle.iss_tables.specs.declared.adding.PostColumns.{PostColumns}
+use Rattle.iss_tables.specs.declared.asking.UserColumns.{UserColumns}
+use Rattle.iss_tables.specs.Tables.{no_schema, archive_schema}
+use Rattle.iss_tables.specs.Rows.{columns_of, asked_for}
+use Rattle.iss_tables.specs.Steps.{PutsPost, PutsPosts, PutsHead, AddsAll, HasHeadAlone, IsEmptyArchive, IsHeadRow, row_of_head, head_row, is_at_most}
+use Rattle.iss_tables.specs.Queries.{head_query, posts_query, above_query, passes, ShowsTable}
+
+-- both tables are there, and nothing else
+abbrev pub IsOurs : State → Type 0
+IsOurs s = s.now.schema ≡ archive_schema
+
+-- nothing was committed
+abbrev pub Keeps : State → State → Type 0
+Keeps old new = HasCleanDisk new → KeepsCommit old new
+
+-- nothing was committed, if the tables are ours
+abbrev pub KeepsOurs : State → State → Type 0
+KeepsOurs old new = HasCleanDisk new → IsOurs old → KeepsCommit old new
+
+-- the connection wasn't opened
+abbrev pub KeepsOpen : State → State → Type 0
+KeepsOpen old new = HasCleanDisk new → IsTrue new.is_open → IsTrue old.is_open
+
+-- a stop leaves what it left before, if the tables are ours
+abbrev pub SurvivesOurs : State → State → Type 0
+SurvivesOurs old new = IsOurs old → Survives old new (λ _. ⊥)
+
+-- a posting was put
+abbrev pub HasPutPost : {T E : Type 0} → PostColumns → Result T E → State → State → Type 0
+HasPutPost row result old new = HasCleanDisk new → OnOk result (IsOurs old → PutsPost (columns_of row) old.now new.now)
+
+-- postings were put
+abbrev pub HasPutPosts : {T E : Type 0} → List PostColumns → Result T E → State → State → Type 0
+HasPutPosts rows result old new = HasCleanDisk new → OnOk result (IsOurs old → PutsPosts (map columns_of rows) old.now new.now)
+
+-- the head was set
+abbrev pub HasSetHead : {T E : Type 0} → HeadColumns → Result T E → State → State → Type 0
+HasSetHead head result old new = HasCleanDisk new → OnOk result (IsOurs old → PutsHead (row_of_head head) old.now new.now)
+
+-- a transaction that was one still is
+abbrev pub StaysInside : {T E : Type 0} → Result T E → State → State → Type 0
+StaysInside result old new = HasCleanDisk new → IsTrue old.in_transaction → OnOk result (IsTrue new.in_transaction)
+
+-- all postings were put, and the head was set
+abbrev pub HasAdded : {T E : Type 0} → List PostColumns → HeadColumns → Result T E → State → State → Type 0
+HasAdded rows head result old new = HasCleanDisk new → OnOk result (IsOurs old → AddsAll (map columns_of rows) head old.now new.now)
+
+-- all that was written is committed, and the connection was open and is
+pub record IsCommitted (old new : State) : Type 0 where
+  pub was_open : IsTrue old.is_open
+  pub is_open : IsTrue new.is_open
+  pub committed : new.committed ≡ new.now
+
+-- nothing was written: what was committed before is what is there, unless the connection is shut
+pub record HasUndone (old new : State) : Type 0 where
+  pub was_open : IsTrue new.is_open → IsTrue old.is_open
+  pub now : IsTrue new.is_open → new.now ≡ old.committed
+  pub committed : IsTrue new.is_open → new.committed ≡ old.committed
+
+-- a stop leaves what it left before, or all of it added to an open connection
+abbrev pub SurvivesAdding : List PostColumns → HeadColumns → State → State → Type 0
+SurvivesAdding rows head old new =
+    IsOurs old → Survives old new (λ trees. IsTrue old.is_open × (db : Database) × AddsAll (map columns_of rows) head old.now db × (trees ≡ db.trees))
+
+-- the table of the head was made alone, if nothing was there
+abbrev pub MakesHead : {T E : Type 0} → Result T E → State → State → Type 0
+MakesHead result old new = HasCleanDisk new → OnOk result (old.now.schema ≡ no_schema → HasHeadAlone new.now)
+
+-- the table of the postings was made beside it
+abbrev pub MakesPosts : {T E : Type 0} → Result T E → State → State → Type 0
+MakesPosts result old new = HasCleanDisk new → OnOk result (HasHeadAlone old.now → IsEmptyArchive new.now)
+
+-- both were made, if nothing was there
+abbrev pub MakesTables : {T E : Type 0} → Result T E → State → State → Type 0
+MakesTables result old new = HasCleanDisk new → OnOk result (old.now.schema ≡ no_schema → IsEmptyArchive new.now)
+
+-- if both tables are there, nothing was done
+abbrev pub LeavesOurs : {T E : Type 0} → Result T E → State → State → Type 0
+LeavesOurs result old new = HasCleanDisk new → OnOk result (IsOurs old → new.now ≡ old.now)
+
+-- the rows are the answer to the question for the head
+abbrev pub ShowsHead : Result (Vec Row Global) Error → State → State → Type 0
+ShowsHead result old new =
+    HasCleanDisk new
+    → IfOk result (λ rows. IsOurs old → ShowsTable head_query (filter (passes head_query.filter []) (old.now.trees 0)) [] rows.items)
+
+-- the rows are the answer to the question for a user's postings
+abbrev pub ShowsPosts : UserColumns → Result (Vec Row Global) Error → State → State → Type 0
+ShowsPosts account result old new =
+    HasCleanDisk new
+    → IfOk result (λ rows. IsOurs old
+    → ShowsTable posts_query (filter (passes posts_query.filter (asked_for account)) (old.now.trees 1)) (asked_for account) rows.items)
+
+-- the head is that of its row
+abbrev pub ReadsHead : {E : Type 0} → Result (Option HeadColumns) E → State → State → Type 0
+ReadsHead result old new = HasCleanDisk new → IfOk result (λ head. IsOurs old → IsHeadRow head (head_row (old.now.trees 0)))
+
+-- the rows are the answer to the question for numbers above this
+abbrev pub ShowsAbove : ℤ → Result (Vec Row Global) Error → State → State → Type 0
+ShowsAbove most result old new =
+    HasCleanDisk new
+    → IfOk result (λ rows. IsOurs old → ShowsTable above_query (filter (passes above_query.filter (Int most ∷ [])) (old.now.trees 1)) (Int most ∷ []) rows.items)
+
+-- if so it was found, no posting has a number above this
+abbrev pub FindsNoneAbove : {E : Type 0} → ℤ → Result Bool E → State → State → Type 0
+FindsNoneAbove most result old new =
+    HasCleanDisk new → IfOk result (λ none. IsOurs old → IsTrue none → list_all (is_at_most most) (old.now.trees 1) ≡ true)
+
+-- a stop leaves what was committed, while the connection is open
+abbrev pub LeavesCommit : State → Type 0
+LeavesCommit s = (db : Trees) → IsTrue s.is_open → s.may_leave db → db ≡ s.committed.trees
+
+-- outside a transaction, what is shown is committed, while the connection is open
+abbrev pub IsSettled : State → Type 0
+IsSettled s = s.in_transaction ≡ false → IsTrue s.is_open → s.now ≡ s.committed
