@@ -1,5 +1,5 @@
 -- What the rows of the two tables say, as the archive's head and rows.
-use Rattle.std.specs.Prelude.{ℕ, ℤ, pos, negsuc, ◌==◌, List, map, Option, Some, None, option_map, if◌then◌else◌}
+use Rattle.std.specs.Prelude.{ℕ, ◌+◌, ℤ, pos, negsuc, ◌==◌, List, map, Option, Some, None, option_map, if◌then◌else◌}
 use Rattle.sqlite.specs.declared.types.Value.{Value}
 use Rattle.sqlite.specs.declared.types.Value.TheVariants.{Null, Int, Real, Text, Blob}
 use Rattle.sqlite.specs.Order.{Row, column}
@@ -54,7 +54,13 @@ account_of None currency = no_account
 abbrev pub account_in : ℕ → Option (List ℕ) → Option Currency → Account
 account_in kind user None = no_account
 account_in kind user (Some currency) =
-    if kind == 4 then account_of user currency else (if kind == 1 then account.Gateway currency else (if kind == 3 then account.Programme currency else account.Network currency))
+    if kind == 4 then account_of user currency
+    else (if kind == 1 then account.Gateway currency
+    else (if kind == 3 then account.Programme currency else account.Network currency))
+
+-- the account of the kind in a column and of the user in the next one
+abbrev pub account_at : Row → ℕ → Currency → Account
+account_at r at currency = account_in (number_in (column r at)) (text_in (column r (at + 1))) (Some currency)
 
 -- the posting of a row of its table
 abbrev pub posting_in : Row → PostRow

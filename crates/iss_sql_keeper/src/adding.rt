@@ -1,12 +1,12 @@
 //! Adding a record to a database that is an archive.
 
-ghost use Rattle.std.specs.Prelude.{◌≡◌, ◌⊎◌, false, map, IfSome, IsSomeAnd, OnOk, OnErr};
+ghost use Rattle.std.specs.Prelude.{◌≡◌, false, map, IfSome, OnErr};
 ghost use Rattle.sqlite.specs.Held.{state};
 ghost use Rattle.sqlite.specs.State.{HasCleanDisk};
-ghost use Rattle.iss_archive.specs.Archived.{Archived, Adds, Follows, Same, Told};
+ghost use Rattle.iss_archive.specs.Archived.{Follows};
 ghost use Rattle.iss_sql_keeper.specs.Decoded.{head_of};
 ghost use Rattle.iss_sql_keeper.specs.Given.{posting_given};
-ghost use Rattle.iss_sql_keeper.specs.Shown.{HasAddedTo, IsKept, LeavesAdded, LeftIn, Stays, told_in};
+ghost use Rattle.iss_sql_keeper.specs.Shown.{AddsTo, IsKept, LeavesAdded, MayLeaveAdded, Stays, TellsAdded, TellsSame, told_in};
 
 use crate::asking::told;
 use crate::columns::{all_columns_of, head_columns_of};
@@ -25,7 +25,7 @@ fn add_columns<S: Alter>(
     requires { IsKept (state S.Store conn.old) }
     ensures mode { conn.new.in_transaction ≡ false }
     ensures clean { HasCleanDisk (state S.Store conn.new) → HasCleanDisk (state S.Store conn.old) }
-    ensures added { HasCleanDisk (state S.Store conn.new) → OnOk result (HasAddedTo rows.now head.now (state S.Store conn.old) (state S.Store conn.new)) }
+    ensures added { AddsTo rows.now head.now result (state S.Store conn.old) (state S.Store conn.new) }
     ensures undone { OnErr result (Stays (state S.Store conn.old) (state S.Store conn.new)) }
     ensures left { LeavesAdded rows.now head.now (state S.Store conn.old) (state S.Store conn.new) }
 {
@@ -45,9 +45,9 @@ fn add_record<S: Alter>(
     requires kept { IsKept (state S.Store conn.old) }
     requires next { IfSome (told_in (state S.Store conn.old)) (λ a. Follows a (head_of head.now) (map posting_given rows.now)) }
     ensures kept { IsKept (state S.Store conn.new) }
-    ensures added { OnOk result (Told (Adds (head_of head.now) (map posting_given rows.now)) (told_in (state S.Store conn.old)) (told_in (state S.Store conn.new))) }
-    ensures undone { OnErr result (Told Same (told_in (state S.Store conn.old)) (told_in (state S.Store conn.new))) }
-    ensures stop { (a : Archived) → LeftIn (state S.Store conn.new) a → LeftIn (state S.Store conn.old) a ⊎ IsSomeAnd (told_in (state S.Store conn.old)) (λ b. Adds (head_of head.now) (map posting_given rows.now) b a) }
+    ensures added { TellsAdded (head_of head.now) (map posting_given rows.now) result (state S.Store conn.old) (state S.Store conn.new) }
+    ensures undone { TellsSame result (state S.Store conn.old) (state S.Store conn.new) }
+    ensures stop { MayLeaveAdded (head_of head.now) (map posting_given rows.now) (state S.Store conn.old) (state S.Store conn.new) }
 {
     add_columns(conn, rows, head)
 }
@@ -63,9 +63,9 @@ pub(crate) fn add_to<S: Alter>(
     requires kept { IsKept (state S.Store conn.old) }
     requires next { IfSome (told_in (state S.Store conn.old)) (λ a. Follows a head.now rows.now) }
     ensures kept { IsKept (state S.Store conn.new) }
-    ensures added { OnOk result (Told (Adds head.now rows.now) (told_in (state S.Store conn.old)) (told_in (state S.Store conn.new))) }
-    ensures undone { OnErr result (Told Same (told_in (state S.Store conn.old)) (told_in (state S.Store conn.new))) }
-    ensures stop { (a : Archived) → LeftIn (state S.Store conn.new) a → LeftIn (state S.Store conn.old) a ⊎ IsSomeAnd (told_in (state S.Store conn.old)) (λ b. Adds head.now rows.now b a) }
+    ensures added { TellsAdded head.now rows.now result (state S.Store conn.old) (state S.Store conn.new) }
+    ensures undone { TellsSame result (state S.Store conn.old) (state S.Store conn.new) }
+    ensures stop { MayLeaveAdded head.now rows.now (state S.Store conn.old) (state S.Store conn.new) }
 {
     let Some(head_columns) = head_columns_of(head) else {
         return Err(KeepFault::Failed);

@@ -1,17 +1,18 @@
 //! Asking a database that is an archive.
 
-ghost use Rattle.std.specs.Prelude.{◌≡◌, pos, true, false, [], ◌∷◌, map, filter, option_map, IfOk, OnErr, IsTrue};
+ghost use Rattle.std.specs.Prelude.{◌≡◌, pos, true, false, [], ◌∷◌, map, option_map, IfOk, IsTrue};
 ghost use Rattle.std.specs.List.{list_all};
 ghost use Rattle.sqlite.specs.declared.types.Value.TheVariants.{Int, Text};
 ghost use Rattle.iss_model.specs.Currencies.{iso_number};
 ghost use Rattle.sqlite.specs.Held.{state};
-ghost use Rattle.iss_archive.specs.Archived.{Archived, Gives, Same, Told, is_of_user, rows_of_user};
+ghost use Rattle.iss_archive.specs.Archived.{is_of_user};
 ghost use Rattle.iss_archive.specs.Statable as statable;
-ghost use Rattle.iss_tables.specs.Queries.{posts_query, passes, ShowsTable};
+ghost use Rattle.iss_tables.specs.Calls.{HasNoneAbove};
+ghost use Rattle.iss_tables.specs.Queries.{ShowsPostsOf};
 ghost use Rattle.iss_tables.specs.Rows.{asked_for};
-ghost use Rattle.iss_tables.specs.Steps.{IsHeadRow, head_row, is_at_most};
+ghost use Rattle.iss_tables.specs.Steps.{IsHeadRow, head_row};
 ghost use Rattle.iss_sql_keeper.specs.Decoded.{archived_in, head_of, posting_shown};
-ghost use Rattle.iss_sql_keeper.specs.Shown.{Holds, IsKept, LeavesNothingNew, LeftIn, Stays, Tells, told_in};
+ghost use Rattle.iss_sql_keeper.specs.Shown.{Holds, HoldsPosts, IsKept, LeavesNothingNew, LeavesSame, Stays, Tells, TellsHead, TellsPosts, TellsSame};
 
 use crate::reading::{self, postings_of};
 use iss_archive::{Head, KeepFault, PostRow, is_statable};
@@ -81,7 +82,7 @@ pub(crate) fn is_none_above<S: Alter>(
 ) -> Result<bool, KeepFault>
     requires { conn.old.in_transaction ≡ false }
     ensures stays { Stays (state S.Store conn.old) (state S.Store conn.new) }
-    ensures found { IfOk result (λ none. IsTrue none → Holds (state S.Store conn.new) (λ trees. list_all (is_at_most most.now) (trees 1) ≡ true)) }
+    ensures found { IfOk result (λ none. IsTrue none → Holds (state S.Store conn.new) (HasNoneAbove most.now)) }
 {
     if !is_ours(conn.schema()) {
         return Err(KeepFault::Failed);
@@ -99,7 +100,7 @@ fn ask_posts<S: Alter>(
     requires { conn.old.in_transaction ≡ false }
     ensures stays { Stays (state S.Store conn.old) (state S.Store conn.new) }
     ensures left { LeavesNothingNew (state S.Store conn.old) (state S.Store conn.new) }
-    ensures shown { IfOk result (λ rows. Holds (state S.Store conn.new) (λ trees. ShowsTable posts_query (filter (passes posts_query.filter (asked_for account.now)) (trees 1)) (asked_for account.now) rows.items)) }
+    ensures shown { IfOk result (λ rows. Holds (state S.Store conn.new) (λ trees. ShowsPostsOf account.now trees rows.items)) }
 {
     if !is_ours(conn.schema()) {
         return Err(KeepFault::Failed);
@@ -146,7 +147,7 @@ fn posts_in<S: Alter>(
     requires { conn.old.in_transaction ≡ false }
     ensures stays { Stays (state S.Store conn.old) (state S.Store conn.new) }
     ensures left { LeavesNothingNew (state S.Store conn.old) (state S.Store conn.new) }
-    ensures read { IfOk result (λ rows. Holds (state S.Store conn.new) (λ trees. rows.items ≡ rows_of_user user.now currency (archived_in trees).rows)) }
+    ensures read { IfOk result (λ rows. HoldsPosts user.now currency rows.items (state S.Store conn.new)) }
     ensures statable { IfOk result (λ rows. IsTrue (statable.is_statable user.now currency rows.items)) }
 {
     let shown = ask_posts(conn, &account_for(user, currency))?;
@@ -157,9 +158,9 @@ fn posts_in<S: Alter>(
 pub(crate) fn tell_head<S: Alter>(conn: &mut Connection<S>) -> Result<Option<Head>, KeepFault>
     requires { IsKept (state S.Store conn.old) }
     ensures kept { IsKept (state S.Store conn.new) }
-    ensures read { IfOk result (λ head. Told (λ a b. Same a b × (head ≡ b.head)) (told_in (state S.Store conn.old)) (told_in (state S.Store conn.new))) }
-    ensures unchanged { OnErr result (Told Same (told_in (state S.Store conn.old)) (told_in (state S.Store conn.new))) }
-    ensures stop { (a : Archived) → LeftIn (state S.Store conn.new) a → LeftIn (state S.Store conn.old) a }
+    ensures read { TellsHead result (state S.Store conn.old) (state S.Store conn.new) }
+    ensures unchanged { TellsSame result (state S.Store conn.old) (state S.Store conn.new) }
+    ensures stop { LeavesSame (state S.Store conn.old) (state S.Store conn.new) }
 {
     head_in(conn)
 }
@@ -173,10 +174,10 @@ pub(crate) fn tell_posts<S: Alter>(
 ) -> Result<Vec<PostRow>, KeepFault>
     requires { IsKept (state S.Store conn.old) }
     ensures kept { IsKept (state S.Store conn.new) }
-    ensures read { IfOk result (λ rows. Told (Gives user.now currency rows.items) (told_in (state S.Store conn.old)) (told_in (state S.Store conn.new))) }
+    ensures read { TellsPosts user.now currency result (state S.Store conn.old) (state S.Store conn.new) }
     ensures statable { IfOk result (λ rows. IsTrue (statable.is_statable user.now currency rows.items)) }
-    ensures unchanged { OnErr result (Told Same (told_in (state S.Store conn.old)) (told_in (state S.Store conn.new))) }
-    ensures stop { (a : Archived) → LeftIn (state S.Store conn.new) a → LeftIn (state S.Store conn.old) a }
+    ensures unchanged { TellsSame result (state S.Store conn.old) (state S.Store conn.new) }
+    ensures stop { LeavesSame (state S.Store conn.old) (state S.Store conn.new) }
 {
     posts_in(alloc, conn, user, currency)
 }

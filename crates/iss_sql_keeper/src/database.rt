@@ -1,10 +1,10 @@
 //! A database that is an archive.
 
-ghost use Rattle.std.specs.Prelude.{◌≡◌, ◌⊎◌, IfOk, IfSome, IsSomeAnd, IsTrue, OnOk, OnErr};
+ghost use Rattle.std.specs.Prelude.{IfOk, IfSome, IsTrue};
 ghost use Rattle.sqlite.specs.Held.{state};
-ghost use Rattle.iss_archive.specs.Archived.{Archived, Adds, Follows, Gives, Same, Told};
+ghost use Rattle.iss_archive.specs.Archived.{Follows};
 ghost use Rattle.iss_archive.specs.Statable.{is_statable};
-ghost use Rattle.iss_sql_keeper.specs.Shown.{LeftIn, told_in};
+ghost use Rattle.iss_sql_keeper.specs.Shown.{LeavesSame, MayLeaveAdded, TellsAdded, TellsHead, TellsPosts, TellsSame, told_in};
 
 use crate::adding::add_to;
 use crate::asking::{tell_head, tell_posts};
@@ -50,9 +50,9 @@ impl<S: Alter + Drop> Database<S> {
 
     /// The head, if there is one.
     pub(crate) fn head(&mut self) -> Result<Option<Head>, KeepFault>
-        ensures read { IfOk result (λ head. Told (λ a b. Same a b × (head ≡ b.head)) (told_in (state S.Store self.old)) (told_in (state S.Store self.new))) }
-        ensures unchanged { OnErr result (Told Same (told_in (state S.Store self.old)) (told_in (state S.Store self.new))) }
-        ensures stop { (a : Archived) → LeftIn (state S.Store self.new) a → LeftIn (state S.Store self.old) a }
+        ensures read { TellsHead result (state S.Store self.old) (state S.Store self.new) }
+        ensures unchanged { TellsSame result (state S.Store self.old) (state S.Store self.new) }
+        ensures stop { LeavesSame (state S.Store self.old) (state S.Store self.new) }
     {
         tell_head(&mut self.conn)
     }
@@ -60,9 +60,9 @@ impl<S: Alter + Drop> Database<S> {
     /// Adds a record's rows and sets the head, both or neither.
     pub(crate) fn add(&mut self, head: &Head, rows: &[PostRow]) -> Result<(), KeepFault>
         requires { IfSome (told_in (state S.Store self.old)) (λ a. Follows a head.now rows.now) }
-        ensures added { OnOk result (Told (Adds head.now rows.now) (told_in (state S.Store self.old)) (told_in (state S.Store self.new))) }
-        ensures undone { OnErr result (Told Same (told_in (state S.Store self.old)) (told_in (state S.Store self.new))) }
-        ensures stop { (a : Archived) → LeftIn (state S.Store self.new) a → LeftIn (state S.Store self.old) a ⊎ IsSomeAnd (told_in (state S.Store self.old)) (λ b. Adds head.now rows.now b a) }
+        ensures added { TellsAdded head.now rows.now result (state S.Store self.old) (state S.Store self.new) }
+        ensures undone { TellsSame result (state S.Store self.old) (state S.Store self.new) }
+        ensures stop { MayLeaveAdded head.now rows.now (state S.Store self.old) (state S.Store self.new) }
     {
         add_to(self.alloc, &mut self.conn, head, rows)
     }
@@ -73,10 +73,10 @@ impl<S: Alter + Drop> Database<S> {
         user: &Token,
         currency: Currency,
     ) -> Result<Vec<PostRow>, KeepFault>
-        ensures read { IfOk result (λ rows. Told (Gives user.now currency rows.items) (told_in (state S.Store self.old)) (told_in (state S.Store self.new))) }
+        ensures read { TellsPosts user.now currency result (state S.Store self.old) (state S.Store self.new) }
         ensures statable { IfOk result (λ rows. IsTrue (is_statable user.now currency rows.items)) }
-        ensures unchanged { OnErr result (Told Same (told_in (state S.Store self.old)) (told_in (state S.Store self.new))) }
-        ensures stop { (a : Archived) → LeftIn (state S.Store self.new) a → LeftIn (state S.Store self.old) a }
+        ensures unchanged { TellsSame result (state S.Store self.old) (state S.Store self.new) }
+        ensures stop { LeavesSame (state S.Store self.old) (state S.Store self.new) }
     {
         tell_posts(self.alloc, &mut self.conn, user, currency)
     }

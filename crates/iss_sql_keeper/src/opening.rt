@@ -1,10 +1,9 @@
 //! Making the tables of an archive, and looking whether what is there is one.
 
-ghost use Rattle.std.specs.Prelude.{◌≡◌, pos, true, false, IfOk, IfSome, IsTrue};
-ghost use Rattle.std.specs.List.{list_all};
+ghost use Rattle.std.specs.Prelude.{◌≡◌, pos, false, IfOk, IfSome, IsTrue};
 ghost use Rattle.sqlite.specs.Held.{state};
 ghost use Rattle.iss_archive.specs.Archived.{posts_in};
-ghost use Rattle.iss_tables.specs.Steps.{is_at_most};
+ghost use Rattle.iss_tables.specs.Calls.{HasNoneAbove};
 ghost use Rattle.iss_sql_keeper.specs.Shown.{Holds, IsKept, Stays};
 
 use crate::asking::{head_in, is_none_above, told};
@@ -27,7 +26,7 @@ fn posts_of(head: &Option<Head>) -> Option<i64>
 fn is_counted<S: Alter>(conn: &mut Connection<S>, head: &Option<Head>) -> Result<bool, KeepFault>
     requires { conn.old.in_transaction ≡ false }
     ensures stays { Stays (state S.Store conn.old) (state S.Store conn.new) }
-    ensures found { IfOk result (λ yes. IsTrue yes → Holds (state S.Store conn.new) (λ trees. list_all (is_at_most (pos (posts_in head.now))) (trees 1) ≡ true)) }
+    ensures found { IfOk result (λ yes. IsTrue yes → Holds (state S.Store conn.new) (HasNoneAbove (pos (posts_in head.now)))) }
 {
     let Some(posts) = posts_of(head) else {
         return Ok(false);

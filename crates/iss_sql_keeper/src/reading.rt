@@ -1,6 +1,6 @@
 //! The archive's head and rows from the rows of an answer.
 
-ghost use Rattle.std.specs.Prelude.{◌≡◌, ◌<◌, ◌+◌, ◌++◌, ◌∷◌, [], map, true, Some, IfSome, IfOk, OnOk};
+ghost use Rattle.std.specs.Prelude.{◌≡◌, ◌<◌, ◌++◌, ◌∷◌, [], map, true, Some, IfSome, IfOk, OnOk};
 ghost use Rattle.std.specs.List.{list_all};
 ghost use Rattle.sqlite.specs.Order.{column};
 ghost use Rattle.iss_archive.specs.Archived.{is_of_user};
@@ -78,7 +78,7 @@ fn account_of(kind: u64, user: Option<Token>, currency: Currency) -> Option<Acco
 /// The account of the kind in a column and the user in the next one.
 fn account_at(row: &Row, at: usize, currency: Currency) -> Option<Account>
     requires { at < 100 }
-    ensures { IfSome result (λ account. account ≡ spec.account_in (spec.number_in (column row.now at)) (spec.text_in (column row.now (at + 1))) (Some currency)) }
+    ensures { IfSome result (λ account. account ≡ spec.account_at row.now at currency) }
 {
     let kind = number_at(row, at)?;
     let user = token_at(row, at + 1)?;

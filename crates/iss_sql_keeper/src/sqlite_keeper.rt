@@ -9,7 +9,9 @@ use iss_model::{Currency, Token};
 use sqlite::{Alter, Connection};
 use std::alloc::{AllocError, Global};
 
-/// A keeper over a database. It tells what was last committed, while the disk returns what was written and the connection is open.
+/// A keeper over a database.
+///
+/// It tells what was last committed, while the disk returns what was written and the connection is open.
 #[derive(Drop)]
 pub struct SqliteKeeper<S: Alter + Drop> {
     /// `None` if it can't be had, or is no archive. Then every call fails.

@@ -1,8 +1,8 @@
--- What each call does to the connection, from the state before it to the state after. What is said of values is said while the disk is honest.
-use Rattle.std.specs.Prelude.{◌≡◌, ℤ, Bool, true, false, List, [], ◌∷◌, map, filter, Option, Result, IfOk, OnOk, IsTrue, Vec}
+-- What each call does to the connection, from the state before it to the state after.
+-- What is said of values is said while the disk is honest.
+use Rattle.std.specs.Prelude.{◌≡◌, ℤ, Bool, true, false, List, map, Option, Result, IfOk, OnOk, OnErr, IsTrue, Vec}
 use Rattle.std.specs.Global.{Global}
 use Rattle.std.specs.List.{list_all}
-use Rattle.sqlite.specs.declared.types.Value.TheVariants.{Int}
 use Rattle.sqlite.specs.declared.error.Error.{Error}
 use Rattle.sqlite.specs.Order.{Row}
 use Rattle.sqlite.specs.Tree.{Trees}
@@ -12,9 +12,9 @@ use Rattle.iss_tables.specs.declared.adding.HeadColumns.{HeadColumns}
 use Rattle.iss_tables.specs.declared.adding.PostColumns.{PostColumns}
 use Rattle.iss_tables.specs.declared.asking.UserColumns.{UserColumns}
 use Rattle.iss_tables.specs.Tables.{no_schema, archive_schema}
-use Rattle.iss_tables.specs.Rows.{columns_of, asked_for}
+use Rattle.iss_tables.specs.Rows.{columns_of}
 use Rattle.iss_tables.specs.Steps.{PutsPost, PutsPosts, PutsHead, AddsAll, HasHeadAlone, IsEmptyArchive, IsHeadRow, row_of_head, head_row, is_at_most}
-use Rattle.iss_tables.specs.Queries.{head_query, posts_query, above_query, passes, ShowsTable}
+use Rattle.iss_tables.specs.Queries.{ShowsHeadOf, ShowsPostsOf, ShowsAboveOf}
 
 -- both tables are there, and nothing else
 abbrev pub IsOurs : State → Type 0
@@ -54,7 +54,8 @@ StaysInside result old new = HasCleanDisk new → IsTrue old.in_transaction → 
 
 -- all postings were put, and the head was set
 abbrev pub HasAdded : {T E : Type 0} → List PostColumns → HeadColumns → Result T E → State → State → Type 0
-HasAdded rows head result old new = HasCleanDisk new → OnOk result (IsOurs old → AddsAll (map columns_of rows) head old.now new.now)
+HasAdded rows head result old new =
+    HasCleanDisk new → OnOk result (IsOurs old → AddsAll (map columns_of rows) head old.now new.now)
 
 -- all that was written is committed, and the connection was open and is
 pub record IsCommitted (old new : State) : Type 0 where
@@ -68,10 +69,23 @@ pub record HasUndone (old new : State) : Type 0 where
   pub now : IsTrue new.is_open → new.now ≡ old.committed
   pub committed : IsTrue new.is_open → new.committed ≡ old.committed
 
+-- it was committed, if the call says so
+abbrev pub HasCommitted : {T E : Type 0} → Result T E → State → State → Type 0
+HasCommitted result old new = HasCleanDisk new → OnOk result (IsCommitted old new)
+
+-- nothing was written, if the call says so
+abbrev pub HasFailed : {T E : Type 0} → Result T E → State → State → Type 0
+HasFailed result old new = HasCleanDisk new → OnErr result (HasUndone old new)
+
+-- these are the trees of an open connection with all of it added to what was there
+abbrev pub IsAllAdded : List PostColumns → HeadColumns → State → Database → Trees → Type 0
+IsAllAdded rows head s from trees =
+    IsTrue s.is_open × (db : Database) × AddsAll (map columns_of rows) head from db × (trees ≡ db.trees)
+
 -- a stop leaves what it left before, or all of it added to an open connection
 abbrev pub SurvivesAdding : List PostColumns → HeadColumns → State → State → Type 0
 SurvivesAdding rows head old new =
-    IsOurs old → Survives old new (λ trees. IsTrue old.is_open × (db : Database) × AddsAll (map columns_of rows) head old.now db × (trees ≡ db.trees))
+    IsOurs old → Survives old new (IsAllAdded rows head old old.now)
 
 -- the table of the head was made alone, if nothing was there
 abbrev pub MakesHead : {T E : Type 0} → Result T E → State → State → Type 0
@@ -92,15 +106,12 @@ LeavesOurs result old new = HasCleanDisk new → OnOk result (IsOurs old → new
 -- the rows are the answer to the question for the head
 abbrev pub ShowsHead : Result (Vec Row Global) Error → State → State → Type 0
 ShowsHead result old new =
-    HasCleanDisk new
-    → IfOk result (λ rows. IsOurs old → ShowsTable head_query (filter (passes head_query.filter []) (old.now.trees 0)) [] rows.items)
+    HasCleanDisk new → IfOk result (λ rows. IsOurs old → ShowsHeadOf old.now.trees rows.items)
 
 -- the rows are the answer to the question for a user's postings
 abbrev pub ShowsPosts : UserColumns → Result (Vec Row Global) Error → State → State → Type 0
 ShowsPosts account result old new =
-    HasCleanDisk new
-    → IfOk result (λ rows. IsOurs old
-    → ShowsTable posts_query (filter (passes posts_query.filter (asked_for account)) (old.now.trees 1)) (asked_for account) rows.items)
+    HasCleanDisk new → IfOk result (λ rows. IsOurs old → ShowsPostsOf account old.now.trees rows.items)
 
 -- the head is that of its row
 abbrev pub ReadsHead : {E : Type 0} → Result (Option HeadColumns) E → State → State → Type 0
@@ -109,13 +120,16 @@ ReadsHead result old new = HasCleanDisk new → IfOk result (λ head. IsOurs old
 -- the rows are the answer to the question for numbers above this
 abbrev pub ShowsAbove : ℤ → Result (Vec Row Global) Error → State → State → Type 0
 ShowsAbove most result old new =
-    HasCleanDisk new
-    → IfOk result (λ rows. IsOurs old → ShowsTable above_query (filter (passes above_query.filter (Int most ∷ [])) (old.now.trees 1)) (Int most ∷ []) rows.items)
+    HasCleanDisk new → IfOk result (λ rows. IsOurs old → ShowsAboveOf most old.now.trees rows.items)
+
+-- no posting has a number above this
+abbrev pub HasNoneAbove : ℤ → Trees → Type 0
+HasNoneAbove most trees = list_all (is_at_most most) (trees 1) ≡ true
 
 -- if so it was found, no posting has a number above this
 abbrev pub FindsNoneAbove : {E : Type 0} → ℤ → Result Bool E → State → State → Type 0
 FindsNoneAbove most result old new =
-    HasCleanDisk new → IfOk result (λ none. IsOurs old → IsTrue none → list_all (is_at_most most) (old.now.trees 1) ≡ true)
+    HasCleanDisk new → IfOk result (λ none. IsOurs old → IsTrue none → HasNoneAbove most old.now.trees)
 
 -- a stop leaves what was committed, while the connection is open
 abbrev pub LeavesCommit : State → Type 0

@@ -1,5 +1,5 @@
 -- The questions, and what their answers show.
-use Rattle.std.specs.Prelude.{◌≡◌, ℕ, pos, negsuc, List, [], ◌∷◌, map, Bool, false, None, IsPermutation, IsSorted}
+use Rattle.std.specs.Prelude.{◌≡◌, ℕ, ℤ, pos, negsuc, List, [], ◌∷◌, map, filter, Bool, false, None, IsPermutation, IsSorted}
 use Rattle.std.specs.List.{list_all}
 use Rattle.sqlite.specs.declared.types.Value.TheVariants.{Int}
 use Rattle.sqlite.specs.Collation.TheVariants.{Binary}
@@ -9,6 +9,9 @@ use Rattle.sqlite_sql.specs.declared.ops.BinaryOp.TheVariants as by
 use Rattle.sqlite_sql.specs.declared.ops.CompareOp.TheVariants.{Eq, Gt}
 use Rattle.sqlite_value.specs.declared.keys.Key.{Key}
 use Rattle.sqlite.specs.Query.{Query, inner, end, Output, output, output_cmp}
+use Rattle.sqlite.specs.Tree.{Trees}
+use Rattle.iss_tables.specs.declared.asking.UserColumns.{UserColumns}
+use Rattle.iss_tables.specs.Rows.{asked_for}
 
 -- a query over one table, with nothing grouped and nothing left out
 abbrev pub simple : ℕ → List Term → List Term → List (Term × Key) → Query
@@ -80,3 +83,19 @@ above_query = record {
   limit = lit (Int (negsuc 0));
   offset = lit (Int (pos 0));
 }
+
+-- the answer to a question over one table, of which these rows pass
+abbrev pub Answers : Query → ℕ → Row → Trees → List Row → Type 0
+Answers q table params trees rows = ShowsTable q (filter (passes q.filter params) (trees table)) params rows
+
+-- the answer to the question for the head
+abbrev pub ShowsHeadOf : Trees → List Row → Type 0
+ShowsHeadOf trees rows = Answers head_query 0 [] trees rows
+
+-- the answer to the question for a user's postings
+abbrev pub ShowsPostsOf : UserColumns → Trees → List Row → Type 0
+ShowsPostsOf account trees rows = Answers posts_query 1 (asked_for account) trees rows
+
+-- the answer to the question for numbers above this
+abbrev pub ShowsAboveOf : ℤ → Trees → List Row → Type 0
+ShowsAboveOf most trees rows = Answers above_query 1 (Int most ∷ []) trees rows

@@ -27,14 +27,18 @@ pub record Columns : Type 0 where
 -- what the statement that adds a posting is given
 abbrev pub given : Columns → Row
 given c =
-    Int c.seq ∷ Int c.record_ ∷ Int c.at ∷ Int c.from_kind ∷ text_or_null c.from_user ∷ Int c.to_kind ∷ text_or_null c.to_user ∷ Int c.currency ∷ Int c.amount
-    ∷ text_or_null c.txn ∷ []
+    Int c.seq ∷ Int c.record_ ∷ Int c.at
+    ∷ Int c.from_kind ∷ text_or_null c.from_user
+    ∷ Int c.to_kind ∷ text_or_null c.to_user
+    ∷ Int c.currency ∷ Int c.amount ∷ text_or_null c.txn ∷ []
 
 -- the row as it is stored: the rowid, and NULL in the column that it stands for
 abbrev pub stored : Columns → Row
 stored c =
-    Int c.seq ∷ Null ∷ Int c.record_ ∷ Int c.at ∷ Int c.from_kind ∷ text_or_null c.from_user ∷ Int c.to_kind ∷ text_or_null c.to_user ∷ Int c.currency ∷ Int c.amount
-    ∷ text_or_null c.txn ∷ []
+    Int c.seq ∷ Null ∷ Int c.record_ ∷ Int c.at
+    ∷ Int c.from_kind ∷ text_or_null c.from_user
+    ∷ Int c.to_kind ∷ text_or_null c.to_user
+    ∷ Int c.currency ∷ Int c.amount ∷ text_or_null c.txn ∷ []
 
 -- the head as it is stored
 abbrev pub stored_head : ℤ → ℤ → ℤ → Row

@@ -10,7 +10,14 @@ use Rattle.sqlite.specs.Kind.TheVariants.{Integer, Text}
 
 -- a column of a strict table
 abbrev pub strict : List ℕ → Kind → Bool → Column
-strict name kind not_null = record { name = name; kind = kind; is_strict = true; not_null = not_null; default = Null; collation = Binary }
+strict name kind not_null = record {
+  name = name;
+  kind = kind;
+  is_strict = true;
+  not_null = not_null;
+  default = Null;
+  collation = Binary;
+}
 
 -- a table of strict columns, keyed by the first
 abbrev pub keyed : List ℕ → ℕ → List Column → Table

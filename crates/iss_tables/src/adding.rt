@@ -1,9 +1,9 @@
 //! Adding a record's postings: each row, and then the head.
 
-ghost use Rattle.std.specs.Prelude.{◌≡◌, false, IsTrue, OnOk, OnErr};
+ghost use Rattle.std.specs.Prelude.{◌≡◌, false, IsTrue, OnOk};
 ghost use Rattle.sqlite.specs.State.{HasCleanDisk, Survives};
 ghost use Rattle.sqlite.specs.Held.{state};
-ghost use Rattle.iss_tables.specs.Calls.{Keeps, HasPutPost, HasPutPosts, HasSetHead, StaysInside, HasAdded, HasUndone, IsCommitted, SurvivesAdding};
+ghost use Rattle.iss_tables.specs.Calls.{Keeps, HasPutPost, HasPutPosts, HasSetHead, StaysInside, HasAdded, HasCommitted, HasFailed, SurvivesAdding};
 
 use sqlite::{Alter, Connection, Error, Transaction, params};
 
@@ -94,8 +94,8 @@ pub fn add<S: Alter>(
     requires { conn.old.in_transaction ≡ false }
     ensures mode { conn.new.in_transaction ≡ false }
     ensures added { HasAdded rows.now head.now result (state S.Store conn.old) (state S.Store conn.new) }
-    ensures committed { HasCleanDisk (state S.Store conn.new) → OnOk result (IsCommitted (state S.Store conn.old) (state S.Store conn.new)) }
-    ensures undone { HasCleanDisk (state S.Store conn.new) → OnErr result (HasUndone (state S.Store conn.old) (state S.Store conn.new)) }
+    ensures committed { HasCommitted result (state S.Store conn.old) (state S.Store conn.new) }
+    ensures undone { HasFailed result (state S.Store conn.old) (state S.Store conn.new) }
     ensures clean { HasCleanDisk (state S.Store conn.new) → HasCleanDisk (state S.Store conn.old) }
     ensures survives { SurvivesAdding rows.now head.now (state S.Store conn.old) (state S.Store conn.new) }
 {

@@ -81,7 +81,8 @@ pub fn read_posts<S: Alter>(
     ensures survives { SurvivesOurs (state S.Store conn.old) (state S.Store conn.new) }
 {
     conn.query_all(
-        "SELECT seq, record, at, from_kind, from_user, to_kind, to_user, currency, amount, txn FROM post WHERE currency = ?2 AND (from_user = ?1 OR to_user = ?1) ORDER BY seq",
+        "SELECT seq, record, at, from_kind, from_user, to_kind, to_user, currency, amount, txn FROM post \
+         WHERE currency = ?2 AND (from_user = ?1 OR to_user = ?1) ORDER BY seq",
         params![account.user, &account.currency],
     )
 }

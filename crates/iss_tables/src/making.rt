@@ -13,7 +13,8 @@ fn make_head<S: Alter>(conn: &mut Connection<S>) -> Result<usize, Error>
     ensures clean { HasCleanDisk (state S.Store conn.new) → HasCleanDisk (state S.Store conn.old) }
 {
     conn.execute(
-        "CREATE TABLE IF NOT EXISTS head (id INTEGER PRIMARY KEY, instance INTEGER NOT NULL, records INTEGER NOT NULL, posts INTEGER NOT NULL) STRICT",
+        "CREATE TABLE IF NOT EXISTS head (id INTEGER PRIMARY KEY, instance INTEGER NOT NULL, records INTEGER NOT NULL, \
+         posts INTEGER NOT NULL) STRICT",
         &[],
     )
 }
@@ -25,7 +26,9 @@ fn make_post<S: Alter>(conn: &mut Connection<S>) -> Result<usize, Error>
     ensures clean { HasCleanDisk (state S.Store conn.new) → HasCleanDisk (state S.Store conn.old) }
 {
     conn.execute(
-        "CREATE TABLE IF NOT EXISTS post (seq INTEGER PRIMARY KEY, record INTEGER NOT NULL, at INTEGER NOT NULL, from_kind INTEGER NOT NULL, from_user TEXT, to_kind INTEGER NOT NULL, to_user TEXT, currency INTEGER NOT NULL, amount INTEGER NOT NULL, txn TEXT) STRICT",
+        "CREATE TABLE IF NOT EXISTS post (seq INTEGER PRIMARY KEY, record INTEGER NOT NULL, at INTEGER NOT NULL, \
+         from_kind INTEGER NOT NULL, from_user TEXT, to_kind INTEGER NOT NULL, to_user TEXT, currency INTEGER NOT NULL, \
+         amount INTEGER NOT NULL, txn TEXT) STRICT",
         &[],
     )
 }
