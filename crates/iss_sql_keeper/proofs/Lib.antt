@@ -5,3 +5,4 @@ pub mod AskedLemmas
 pub mod AddedLemmas
 pub mod ShownLemmas
 pub mod AddingLemmas
+pub mod OpenedLemmas

@@ -31,7 +31,7 @@ unfolding doubt
 clean_is true h = refl
 clean_is false h = absurd cc
 
-clean_from : (b : Bool) → b ≡ true → doubt b ≡ 0
+pub clean_from : (b : Bool) → b ≡ true → doubt b ≡ 0
 unfolding doubt
 clean_from b h = rw h refl
 
@@ -57,6 +57,14 @@ told_by R old new h = by new.is_open new.is_clean refl refl
 
 pub stays_self : (s : State) → Stays s s
 stays_self s = record { was_open = λ _ o. o; clean = λ c. c; committed = λ _ _. refl; mode = λ m. m }
+
+pub stays_then : (a b c : State) → Stays a b → Stays b c → Stays a c
+stays_then a b c p q = record {
+  was_open = λ clean is_open. p.was_open (q.clean clean) (q.was_open clean is_open);
+  clean = λ clean. p.clean (q.clean clean);
+  committed = λ clean is_open. q.committed clean is_open ∙ p.committed (q.clean clean) (q.was_open clean is_open);
+  mode = λ out. q.mode (p.mode out);
+}
 
 pub stays_kept : (old new : State) → Stays old new → IsKept old → IsKept new
 stays_kept old new s k = record {

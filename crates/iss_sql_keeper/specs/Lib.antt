@@ -3,3 +3,4 @@ pub mod Decoded
 pub mod Given
 pub mod Shown
 pub mod Standing
+pub mod Opened

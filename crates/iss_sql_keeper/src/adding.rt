@@ -6,6 +6,7 @@ ghost use Rattle.sqlite.specs.State.{HasCleanDisk};
 ghost use Rattle.iss_archive.specs.Archived.{Follows};
 ghost use Rattle.iss_sql_keeper.specs.Decoded.{head_of};
 ghost use Rattle.iss_sql_keeper.specs.Given.{posting_given};
+ghost use Rattle.iss_sql_keeper.specs.Opened.{MayLeaveGiven, TellsGiven};
 ghost use Rattle.iss_sql_keeper.specs.Shown.{AddsTo, IsKept, LeavesAdded, MayLeaveAdded, Stays, TellsAdded, TellsSame, told_in};
 
 use crate::asking::told;
@@ -45,9 +46,9 @@ fn add_record<S: Alter>(
     requires kept { IsKept (state S.Store conn.old) }
     requires next { IfSome (told_in (state S.Store conn.old)) (λ a. Follows a (head_of head.now) (map posting_given rows.now)) }
     ensures kept { IsKept (state S.Store conn.new) }
-    ensures added { TellsAdded (head_of head.now) (map posting_given rows.now) result (state S.Store conn.old) (state S.Store conn.new) }
+    ensures added { TellsGiven head.now rows.now result (state S.Store conn.old) (state S.Store conn.new) }
     ensures undone { TellsSame result (state S.Store conn.old) (state S.Store conn.new) }
-    ensures stop { MayLeaveAdded (head_of head.now) (map posting_given rows.now) (state S.Store conn.old) (state S.Store conn.new) }
+    ensures stop { MayLeaveGiven head.now rows.now (state S.Store conn.old) (state S.Store conn.new) }
 {
     add_columns(conn, rows, head)
 }

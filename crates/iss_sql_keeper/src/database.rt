@@ -4,6 +4,7 @@ ghost use Rattle.std.specs.Prelude.{IfOk, IfSome, IsTrue};
 ghost use Rattle.sqlite.specs.Held.{state};
 ghost use Rattle.iss_archive.specs.Archived.{Follows};
 ghost use Rattle.iss_archive.specs.Statable.{is_statable};
+ghost use Rattle.iss_sql_keeper.specs.Opened.{HoldsOn};
 ghost use Rattle.iss_sql_keeper.specs.Shown.{LeavesSame, MayLeaveAdded, TellsAdded, TellsHead, TellsPosts, TellsSame, told_in};
 
 use crate::adding::add_to;
@@ -24,6 +25,7 @@ pub(crate) struct Database<S: Alter + Drop> {
 
 impl<S: Alter + Drop> Model for Database<S> {
     ghost use Rattle.sqlite.specs.Held.{Held, held_code, state};
+    ghost use Rattle.iss_sql_keeper.specs.Opened.{HoldsOn};
     ghost use Rattle.iss_sql_keeper.specs.Shown.{IsKept};
 
     ghost Value = { Held S };
@@ -36,16 +38,25 @@ impl<S: Alter + Drop> Model for Database<S> {
 }
 
 impl<S: Alter + Drop> Database<S> {
-    /// The archive of a database, whose tables are made if they aren't there, or `None` if it isn't one.
+    /// The archive of a database, whose tables are made if they aren't there, or the connection back if it isn't one.
     pub(crate) fn open(
         alloc: Global,
         mut conn: Connection<S>,
-    ) -> Result<Option<Database<S>>, AllocError> {
+    ) -> Result<Result<Database<S>, Connection<S>>, AllocError>
+        ensures { IfOk result (λ opened. IfOk opened (λ d. HoldsOn (state S.Store conn) (state S.Store d))) }
+    {
         match prepare(&mut conn) {
-            Ok(true) => Ok(Some(Database { conn, alloc })),
+            Ok(true) => Ok(Ok(Database { conn, alloc })),
             Err(KeepFault::OutOfMemory) => Err(AllocError),
-            Ok(false) | Err(KeepFault::Failed) => Ok(None),
+            Ok(false) | Err(KeepFault::Failed) => Ok(Err(conn)),
         }
+    }
+
+    /// The connection, as it is.
+    pub(crate) fn into_connection(self) -> Connection<S>
+        ensures { result ≡ self }
+    {
+        self.conn
     }
 
     /// The head, if there is one.

@@ -3,7 +3,8 @@
 ghost use Rattle.std.specs.Prelude.{◌≡◌, pos, false, IfOk, IfSome, IsTrue};
 ghost use Rattle.sqlite.specs.Held.{state};
 ghost use Rattle.iss_archive.specs.Archived.{posts_in};
-ghost use Rattle.iss_tables.specs.Calls.{HasNoneAbove};
+ghost use Rattle.iss_tables.specs.Calls.{HasNoneAbove, MakesTables};
+ghost use Rattle.iss_sql_keeper.specs.Opened.{HoldsOn};
 ghost use Rattle.iss_sql_keeper.specs.Shown.{Holds, IsKept, Stays};
 
 use crate::asking::{head_in, is_none_above, told};
@@ -37,17 +38,26 @@ fn is_counted<S: Alter>(conn: &mut Connection<S>, head: &Option<Head>) -> Result
 /// Whether a connection with both tables is one to an archive.
 fn is_archive<S: Alter>(conn: &mut Connection<S>) -> Result<bool, KeepFault>
     requires { conn.old.in_transaction ≡ false }
-    ensures { IfOk result (λ yes. IsTrue yes → IsKept (state S.Store conn.new)) }
+    ensures kept { IfOk result (λ yes. IsTrue yes → IsKept (state S.Store conn.new)) }
+    ensures stays { Stays (state S.Store conn.old) (state S.Store conn.new) }
 {
     let head = head_in(conn)?;
     is_counted(conn, &head)
 }
 
+/// Makes the two tables if they aren't there.
+fn make<S: Alter>(conn: &mut Connection<S>) -> Result<(), KeepFault>
+    ensures { MakesTables result (state S.Store conn.old) (state S.Store conn.new) }
+{
+    told(make_tables(conn))
+}
+
 /// Makes the two tables if they aren't there, and says whether what is there is an archive.
 pub(crate) fn prepare<S: Alter>(conn: &mut Connection<S>) -> Result<bool, KeepFault>
-    ensures { IfOk result (λ yes. IsTrue yes → IsKept (state S.Store conn.new)) }
+    ensures kept { IfOk result (λ yes. IsTrue yes → IsKept (state S.Store conn.new)) }
+    ensures held { IfOk result (λ yes. IsTrue yes → HoldsOn (state S.Store conn.old) (state S.Store conn.new)) }
 {
-    told(make_tables(conn))?;
+    make(conn)?;
     if !conn.is_autocommit() {
         return Ok(false);
     }

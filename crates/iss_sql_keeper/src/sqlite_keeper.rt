@@ -1,7 +1,10 @@
 //! A keeper over a database of `sqlite`.
 
-ghost use Rattle.std.specs.Prelude.{◌≡◌, IfOk};
+ghost use Rattle.std.specs.Prelude.{◌≡◌, IfOk, IfSome};
+ghost use Rattle.std.specs.Option.{option_or};
+ghost use Rattle.sqlite.specs.Held.{state};
 ghost use Rattle.iss_archive.specs.Archived.{Counts};
+ghost use Rattle.iss_sql_keeper.specs.Opened.{IsHeldBy};
 
 use crate::database::Database;
 use iss_archive::{Head, KeepFault, Keeper, PostRow};
@@ -16,22 +19,49 @@ use std::alloc::{AllocError, Global};
 pub struct SqliteKeeper<S: Alter + Drop> {
     /// `None` if it can't be had, or is no archive. Then every call fails.
     database: Option<Database<S>>,
+    /// The connection to a database that is no archive.
+    refused: Option<Connection<S>>,
     faults: u64,
 }
 
 impl<S: Alter + Drop> SqliteKeeper<S> {
     /// A keeper over this connection, or over none if the database can't be opened. The two tables are made if they aren't there.
+    ///
+    /// What it tells is what the tables held, and that nothing is archived in a table that it made.
+    #[tactic(auto, using(crate::proofs::OpenedLemmas::told_held))]
     pub fn new(alloc: Global, conn: Option<Connection<S>>) -> Result<SqliteKeeper<S>, AllocError>
-        ensures { IfOk result (λ k. ⟦<SqliteKeeper<S> as Keeper>⟧.faults k ≡ 0) }
+        ensures faults { IfOk result (λ k. ⟦<SqliteKeeper<S> as Keeper>⟧.faults k ≡ 0) }
+        ensures told { IfOk result (λ k. IfSome (⟦<SqliteKeeper<S> as Keeper>⟧.told k) (IsHeldBy (state S.Store) conn)) }
     {
-        let database = match conn {
-            Some(conn) => Database::open(alloc, conn)?,
-            None => None,
+        let Some(conn) = conn else {
+            return Ok(SqliteKeeper {
+                database: None,
+                refused: None,
+                faults: 0,
+            });
         };
-        Ok(SqliteKeeper {
-            database,
-            faults: 0,
-        })
+        match Database::open(alloc, conn)? {
+            Ok(database) => Ok(SqliteKeeper {
+                database: Some(database),
+                refused: None,
+                faults: 0,
+            }),
+            Err(conn) => Ok(SqliteKeeper {
+                database: None,
+                refused: Some(conn),
+                faults: 0,
+            }),
+        }
+    }
+
+    /// The connection that the keeper was made over, as it is now.
+    pub fn into_connection(self) -> Option<Connection<S>>
+        ensures { result ≡ option_or self.database self.refused }
+    {
+        match self.database {
+            Some(database) => Some(database.into_connection()),
+            None => self.refused,
+        }
     }
 }
 

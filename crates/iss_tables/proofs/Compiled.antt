@@ -8,7 +8,9 @@ use Rattle.sqlite_schema.specs.declared.command.Conflict.TheVariants.{Replace}
 use Rattle.sqlite.specs.Compile.{table_defined_by}
 use Rattle.sqlite_tied.specs.Compute.{everything}
 use Rattle.sqlite.specs.Listing.{understood, reads_listing}
+use Rattle.std.proofs.Common.{length}
 use Rattle.sqlite.proofs.Callers.{IsPlain, command_of, statement_of}
+use Rattle.iss_tables.proofs.Failing.{tail_of, names_of, shows_of}
 use Rattle.iss_tables.specs.Texts.{make_head, make_post, set_head, add_post, get_head, get_posts, get_above}
 use Rattle.iss_tables.specs.Queries.{head_query, posts_query, above_query}
 use Rattle.iss_tables.specs.Tables.{head_table, post_table_at, no_schema, head_schema, archive_schema}
@@ -24,6 +26,10 @@ post_made = refl
 pub head_creates : command_of (understood no_schema make_head) ≡ CreateTable
 unfolding understood everything
 head_creates = refl
+
+pub head_stands_alone : command_of (understood head_schema make_head) ≡ Nothing
+unfolding understood everything
+head_stands_alone = refl
 
 pub head_stands : command_of (understood archive_schema make_head) ≡ Nothing
 unfolding understood everything
@@ -82,3 +88,29 @@ plain = ((refl, refl), (refl, refl), (refl, refl), (refl, refl), (refl, refl), (
 pub texts_are : (statement_of make_head (understood no_schema make_head) ≡ make_head) × (statement_of make_post (understood head_schema make_post) ≡ make_post)
 unfolding understood everything
 texts_are = (refl, refl)
+
+-- each question is one statement, with as many parameters as it is given
+pub asks_whole : (tail_of (understood archive_schema get_head) ≡ length get_head) × (names_of (understood archive_schema get_head) ≡ 0)
+    × (tail_of (understood archive_schema get_posts) ≡ length get_posts) × (names_of (understood archive_schema get_posts) ≡ 2)
+    × (tail_of (understood archive_schema get_above) ≡ length get_above) × (names_of (understood archive_schema get_above) ≡ 1)
+unfolding understood everything
+asks_whole = (refl, refl, refl, refl, refl, refl)
+
+-- so is each write, which shows no rows
+pub writes_whole : (tail_of (understood archive_schema add_post) ≡ length add_post) × (names_of (understood archive_schema add_post) ≡ 10) × (shows_of (understood archive_schema add_post) ≡ false)
+    × (tail_of (understood archive_schema set_head) ≡ length set_head) × (names_of (understood archive_schema set_head) ≡ 3) × (shows_of (understood archive_schema set_head) ≡ false)
+unfolding understood everything
+writes_whole = (refl, refl, refl, refl, refl, refl)
+
+-- so is each text that makes a table, over each schema that can become ours
+pub head_whole : (tail_of (understood no_schema make_head) ≡ length make_head) × (names_of (understood no_schema make_head) ≡ 0) × (shows_of (understood no_schema make_head) ≡ false)
+    × (tail_of (understood head_schema make_head) ≡ length make_head) × (names_of (understood head_schema make_head) ≡ 0) × (shows_of (understood head_schema make_head) ≡ false)
+    × (tail_of (understood archive_schema make_head) ≡ length make_head) × (names_of (understood archive_schema make_head) ≡ 0) × (shows_of (understood archive_schema make_head) ≡ false)
+    × IsPlain (understood head_schema make_head)
+unfolding understood everything
+head_whole = (refl, refl, refl, refl, refl, refl, refl, refl, refl, (refl, refl))
+
+pub post_whole : (tail_of (understood head_schema make_post) ≡ length make_post) × (names_of (understood head_schema make_post) ≡ 0) × (shows_of (understood head_schema make_post) ≡ false)
+    × (tail_of (understood archive_schema make_post) ≡ length make_post) × (names_of (understood archive_schema make_post) ≡ 0) × (shows_of (understood archive_schema make_post) ≡ false)
+unfolding understood everything
+post_whole = (refl, refl, refl, refl, refl, refl)

@@ -45,7 +45,7 @@ put_found i r p (row ∷ rows) = by (put_found i r p rows) (value_cmp (rowid row
     by later Equal e = rw (e, same_one) refl
     by later Greater e = rw (e, same_one) refl
 
-cast_head : (i r p : ℤ) → cast_row head_table (stored_head i r p) ≡ stored_head i r p
+pub cast_head : (i r p : ℤ) → cast_row head_table (stored_head i r p) ≡ stored_head i r p
 cast_head i r p = rw (cast_int (pos 1), cast_null, cast_int i, cast_int r, cast_int p) refl
 
 -- the row was put into what was left of the table
@@ -60,7 +60,7 @@ never : {B E : Type 0} {b : B} {e : E} → ◌≡◌ {A = Result B E} (Ok b) (Er
 never h = cc
 
 -- the part of the statement that reads the schema
-abbrev task_of : Option ℕ → Keys → Row → Task
+abbrev pub task_of : Option ℕ → Keys → Row → Task
 task_of limit keys params = record { limit = limit; keys = keys; schema = archive_schema; table = head_table; params = params }
 
 module _ (limit : Option ℕ) (keys : Keys) (params : Row) (i r p : ℤ) where
@@ -93,7 +93,7 @@ module _ (limit : Option ℕ) (keys : Keys) (params : Row) (i r p : ℤ) where
   tries db one (inl refused) = absurd (let e = refused.1 in cc)
   tries db one (inr judged) = judges db judged.0 one judged.2
 
-  new_is : (top : ℤ) (db : Trees) → with_rowid (rowids_for head_table top) (db 0) (cast_row head_table (mended Replace head_table (stored_head i r p))) ≡ stored_head i r p
+  pub new_is : (top : ℤ) (db : Trees) → with_rowid (rowids_for head_table top) (db 0) (cast_row head_table (mended Replace head_table (stored_head i r p))) ≡ stored_head i r p
   new_is top db = ap (with_rowid Chosen (db 0)) (cast_head i r p)
 
   tries_each : (db : Trees) (rows : List Row) (top : ℤ) (done : Written × ℤ) → rows ≡ stored_head i r p ∷ []

@@ -1,5 +1,10 @@
 -- The head that is read is the row of the head.
-use Rattle.std.proofs.Common.{◌≡◌, ℤ, pos, length, arith, List, [], ◌∷◌, map, filter, find, Bool, true, false, Option, Some, None, ◌&&◌, refl, sym, ap, subst, ◌∙◌, IsPermutation, Result, Ok, Err, IfOk}
+use Rattle.std.proofs.Common.{◌≡◌, ◌≢◌, ◌⊎◌, inl, inr, ℕ, zero, suc, ◌≤◌, ◌<◌, ℤ, pos, cond, length, arith, List, [], ◌∷◌, map, filter, find, Bool, true, false, Option, Some, None, ◌&&◌, refl, sym, ap, subst, ◌∙◌, IsPermutation, Result, Ok, Err, IfOk, IfErr}
+use Rattle.sqlite.specs.Values.{IsInt}
+use Rattle.sqlite.specs.Reading.{IsReadError}
+use Rattle.sqlite.specs.State.{State}
+use Rattle.sqlite.specs.declared.error.Error.TheVariants.{SqliteFailure}
+use Rattle.sqlite.specs.declared.error.ErrorCode.TheVariants.{OutOfMemory}
 use Rattle.std.specs.List.{list_all}
 use Rattle.std.specs.Ordering.{is_eq, is_gt}
 use Rattle.sqlite.specs.declared.error.Error.{Error}
@@ -15,7 +20,9 @@ use Rattle.sqlite_sql.specs.declared.ops.CompareOp.TheVariants.{Eq, Gt}
 use Rattle.sqlite.specs.Query.{Output, output}
 use Rattle.sqlite.proofs.Callers.{one_permutation}
 use Rattle.iss_tables.specs.declared.adding.HeadColumns.{HeadColumns}
-use Rattle.iss_tables.specs.Steps.{head_row, IsOneHead, IsHeadRow, is_at_most}
+use Rattle.iss_tables.specs.Tables.{archive_schema}
+use Rattle.iss_tables.specs.Steps.{head_row, IsOneHead, IsHeadRow, AreNoHead, IsNoHead, HasNoNumber, is_at_most}
+use Rattle.iss_tables.specs.Causes.{AreHead, HoldsHead, FailsToAsk}
 use Rattle.iss_tables.specs.Queries.{head_query, above_query, ShowsTable, passes}
 
 truth_is : (b : Bool) → is_true (from_truth (Some b)) ≡ b
@@ -143,3 +150,64 @@ none_shown most (r ∷ kept) os e p =
 pub none_above_by : (most : ℤ) (table rows : List Row) → ShowsTable above_query (filter (passes above_query.filter (Int most ∷ [])) table) (Int most ∷ []) rows → rows ≡ []
     → list_all (is_at_most most) table ≡ true
 none_above_by most table rows s e = none_passes most table (none_shown most _ s.ordered (no_output s.ordered (sym e ∙ s.shown)) s.same)
+
+-- ---- a table that holds no head
+
+pub no_head : (row : Row) → HasNoNumber row 0 ⊎ (HasNoNumber row 1 ⊎ HasNoNumber row 2) → IsNoHead row
+no_head row (inl none) head are = none head.instance are.instance
+no_head row (inr (inl none)) head are = none head.records are.records
+no_head row (inr (inr none)) head are = none head.posts are.posts
+
+-- a column past the end is NULL
+past_end : (row : Row) (at : ℕ) → length row ≤ at → column row at ≡ Null
+past_end [] at h = refl
+past_end (v ∷ row) zero h = absurd (omega (arith, h))
+past_end (v ∷ row) (suc at) h = past_end row at (omega (arith, h))
+
+below_or_past : (row : Row) (at : ℕ) → (at < length row) ⊎ (length row ≤ at)
+below_or_past [] at = inr (omega arith)
+below_or_past (v ∷ row) zero = inl (omega arith)
+below_or_past (v ∷ row) (suc at) = elim (below_or_past row at) [ inl below ↦ inl (omega (arith, below)) | inr past ↦ inr (omega (arith, past)) ]
+
+-- why a column has no number
+pub number_cause : (row : Row) (at : ℕ) (r : Result ℤ Error) → IfErr r (IsReadError at (column row at))
+    → IfErr r (λ e. e ≢ SqliteFailure OutOfMemory → at < length row → ¬ IsInt (column row at))
+    → IfErr r (λ e. (e ≡ SqliteFailure OutOfMemory) ⊎ HasNoNumber row at)
+number_cause row at (Ok n) named kind = tt
+number_cause row at (Err e) named kind = elim named [
+  | inl index ↦ inr (other (λ memory. let no = sym index ∙ memory in cc))
+  | inr (inl typed) ↦ inr (other (λ memory. let no = sym typed ∙ memory in cc))
+  | inr (inr (inl range)) ↦ inr (other (λ memory. let no = sym range ∙ memory in cc))
+  | inr (inr (inr (inl text))) ↦ inr (other (λ memory. let no = sym text ∙ memory in cc))
+  | inr (inr (inr (inr memory))) ↦ inl memory
+]
+  where
+    other : e ≢ SqliteFailure OutOfMemory → HasNoNumber row at
+    other ne n is = elim (below_or_past row at) [
+      | inl below ↦ kind ne below (n, is)
+      | inr past ↦ let no : Null ≡ Int n = sym (past_end row at past) ∙ is in cc
+    ]
+
+same_filter : (rows : List Row) → kept_of rows ≡ filter (has_rowid (pos 1)) rows
+same_filter [] = refl
+same_filter (r ∷ rows) = rw (head_passes r) (ap (λ (l : List Row). cond (has_rowid (pos 1) r) (r ∷ l) l) (same_filter rows))
+
+none_from : (os : List Output) → IsPermutation [] os → os ≡ []
+none_from [] p = refl
+none_from (o ∷ os) p = absurd (omega (arith, length_permutation [] (o ∷ os) p))
+
+-- the rows that were shown are no head, so the table holds none
+pub head_unread : (table shown : List Row) → ShowsTable head_query (kept_of table) [] shown → AreNoHead shown → ¬ AreHead (filter (has_rowid (pos 1)) table)
+head_unread table shown s none head = by (kept_of table) s (subst AreHead (sym (same_filter table)) head)
+  where
+    by : (kept : List Row) → ShowsTable head_query kept [] shown → AreHead kept → ⊥
+    by [] t are = none None (t.shown ∙ ap (map (λ (o : Output). o.1)) (none_from t.ordered t.same))
+    by (row ∷ []) t are =
+        let all : shown ≡ (shown_of row).1 ∷ [] = t.shown ∙ ap (map (λ (o : Output). o.1)) (one_permutation (shown_of row) t.ordered t.same) in
+        none (Some are.0) ((shown_of row).1, all, record { instance = are.1.instance; records = are.1.records; posts = are.1.posts })
+    by (row ∷ more ∷ rows) t are = are
+
+pub head_cause_by : {T : Type 0} (old new : State) (shown : List Row) (r : Result T Error) → (old.now.schema ≡ archive_schema → ShowsTable head_query (kept_of (old.now.trees 0)) [] shown)
+    → IfErr r (λ e. (e ≡ SqliteFailure OutOfMemory) ⊎ AreNoHead shown) → old.now.schema ≡ archive_schema → IfErr r (λ e. FailsToAsk old new e ⊎ (¬ HoldsHead old.now.trees))
+head_cause_by old new shown (Ok x) s why has = tt
+head_cause_by old new shown (Err e) s why has = elim why [ inl memory ↦ inl (inl (inl memory)) | inr none ↦ inr (head_unread (old.now.trees 0) shown (s has) none) ]

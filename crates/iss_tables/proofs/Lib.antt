@@ -6,3 +6,9 @@ pub mod TableLemmas
 pub mod HeadReading
 pub mod Asked
 pub mod ShapeLemmas
+pub mod Failing
+pub mod Unasked
+pub mod Refused
+pub mod Unmade
+pub mod Unset
+pub mod Unput

@@ -53,7 +53,7 @@ pub same_value : {B E : Type 0} {a b : B} → ◌≡◌ {A = Result B E} (Ok a) 
 same_value e = cc
 
 -- the new row of the edit
-cast_given : (c : Columns) → cast_row post_table (Int c.seq ∷ Null ∷ Int c.record_ ∷ Int c.at ∷ Int c.from_kind ∷ text_or_null c.from_user ∷ Int c.to_kind ∷ text_or_null c.to_user ∷ Int c.currency ∷ Int c.amount ∷ text_or_null c.txn ∷ []) ≡ stored c
+pub cast_given : (c : Columns) → cast_row post_table (Int c.seq ∷ Null ∷ Int c.record_ ∷ Int c.at ∷ Int c.from_kind ∷ text_or_null c.from_user ∷ Int c.to_kind ∷ text_or_null c.to_user ∷ Int c.currency ∷ Int c.amount ∷ text_or_null c.txn ∷ []) ≡ stored c
 cast_given c =
     rw (cast_int c.seq, cast_null, cast_int c.record_, cast_int c.at, cast_int c.from_kind, cast_text c.from_user, cast_int c.to_kind, cast_text c.to_user, cast_int c.currency, cast_int c.amount, cast_text c.txn) refl
 

@@ -1,5 +1,5 @@
 -- What making the tables does.
-use Rattle.std.proofs.Common.{◌≡◌, ℕ, [], false, None, Ok, Err, Result, OnOk, sym, ap, subst, ◌∙◌}
+use Rattle.std.proofs.Common.{◌≡◌, ◌⊎◌, inl, inr, ℕ, [], false, None, Ok, Err, Result, OnOk, IsTrue, sym, ap, subst, ◌∙◌}
 use Rattle.sqlite.specs.Command.TheVariants.{CreateTable, Nothing}
 use Rattle.sqlite.specs.Change.{created, next_tree}
 use Rattle.sqlite_catalog.specs.Change.{KeepsRows}
@@ -9,9 +9,10 @@ use Rattle.sqlite.specs.State.{State, Writes, Executes, IsUnchanged}
 use Rattle.sqlite.proofs.Callers.{runs_as}
 use Rattle.iss_tables.specs.Tables.{head_table, post_table_at, no_schema, head_schema, archive_schema}
 use Rattle.iss_tables.specs.Texts.{make_head, make_post}
-use Rattle.iss_tables.proofs.Compiled.{head_made, post_made, head_creates, post_creates, head_stands, post_stands, texts_are, plain}
+use Rattle.iss_tables.proofs.Compiled.{head_made, post_made, head_creates, post_creates, head_stands, head_stands_alone, post_stands, texts_are, plain, head_whole}
 use Rattle.sqlite.specs.declared.error.Error.{Error}
-use Rattle.iss_tables.specs.Steps.{HasHeadAlone, IsEmptyArchive}
+use Rattle.iss_tables.specs.Steps.{HasHeadAlone, AddsPosts, IsEmptyArchive, IsMadeOf}
+use Rattle.iss_tables.specs.Causes.{CanBeOurs}
 use Rattle.iss_tables.proofs.PostLemmas.{went, same_value}
 
 -- the table of the head is made, with no row
@@ -50,6 +51,9 @@ makes_post old new count has h =
 pub head_is_there : (old new : State) (count : ℕ) → old.now.schema ≡ archive_schema → Executes make_head [] old new (Ok count) → IsUnchanged old new
 head_is_there old new count has h = (runs_as make_head [] old new archive_schema has Nothing head_stands plain.2 count h).0
 
+head_is_alone : (old new : State) (count : ℕ) → old.now.schema ≡ head_schema → Executes make_head [] old new (Ok count) → IsUnchanged old new
+head_is_alone old new count has h = (runs_as make_head [] old new head_schema has Nothing head_stands_alone head_whole.9 count h).0
+
 post_is_there : (old new : State) (count : ℕ) → old.now.schema ≡ archive_schema → Executes make_post [] old new (Ok count) → IsUnchanged old new
 post_is_there old new count has h = (runs_as make_post [] old new archive_schema has Nothing post_stands plain.3 count h).0
 
@@ -62,10 +66,36 @@ pub head_left_by : (old new : State) (r : Result ℕ Error) → Executes make_he
 head_left_by old new (Ok count) h = λ has. (head_is_there old new count has h).0.now_is
 head_left_by old new (Err e) h = tt
 
-pub post_made_by : (old new : State) (r : Result ℕ Error) → Executes make_post [] old new r → OnOk r (HasHeadAlone old.now → IsEmptyArchive new.now)
-post_made_by old new (Ok count) h = λ has. let made = makes_post old new count has.0 h in record { schema = made.0; head = made.2 ∙ has.1; posts = made.1 }
+pub post_made_by : (old new : State) (r : Result ℕ Error) → Executes make_post [] old new r → OnOk r (old.now.schema ≡ head_schema → AddsPosts old.now new.now)
+post_made_by old new (Ok count) h = λ has. let made = makes_post old new count has h in record { schema = made.0; head = made.2; posts = made.1 }
 post_made_by old new (Err e) h = tt
 
 pub post_left_by : (old new : State) (r : Result ℕ Error) → Executes make_post [] old new r → OnOk r (old.now.schema ≡ archive_schema → new.now ≡ old.now)
 post_left_by old new (Ok count) h = λ has. (post_is_there old new count has h).0.now_is
 post_left_by old new (Err e) h = tt
+
+pub head_alone_by : (old new : State) (r : Result ℕ Error) → Executes make_head [] old new r → OnOk r (old.now.schema ≡ head_schema → new.now ≡ old.now)
+head_alone_by old new (Ok count) h = λ has. (head_is_alone old new count has h).0.now_is
+head_alone_by old new (Err e) h = tt
+
+pub head_opened_by : (old new : State) (r : Result ℕ Error) → CanBeOurs old → Executes make_head [] old new r → OnOk r (IsTrue new.is_open)
+head_opened_by old new (Ok count) (inl has) h = (head_is_there old new count has h).0.is_open
+head_opened_by old new (Ok count) (inr (inl has)) h = (runs_as make_head [] old new no_schema has CreateTable head_creates plain.0 count h).shown.is_open
+head_opened_by old new (Ok count) (inr (inr has)) h = (head_is_alone old new count has h).0.is_open
+head_opened_by old new (Err e) can h = tt
+
+-- what making both comes to
+pub both_made : (old mid new : Database) → (old.schema ≡ no_schema → HasHeadAlone mid) → (old.schema ≡ head_schema → mid ≡ old) → (old.schema ≡ archive_schema → mid ≡ old)
+    → (mid.schema ≡ head_schema → AddsPosts mid new) → (mid.schema ≡ archive_schema → new ≡ mid) → IsMadeOf old new
+both_made old mid new blank alone stands beside kept = record {
+  blank = λ has. let first = blank has in let after = beside first.0 in record { schema = after.schema; head = after.head ∙ first.1; posts = after.posts };
+  half = λ has. let same = alone has in let after = beside (ap (λ (d : Database). d.schema) same ∙ has) in record { schema = after.schema; head = after.head ∙ ap (λ (d : Database). d.trees 0) same; posts = after.posts };
+  ours = λ has. let same = stands has in kept (ap (λ (d : Database). d.schema) same ∙ has) ∙ same;
+}
+
+-- what is there once the table of the head was made or left
+pub then_ready : (old mid : State) → (old.now.schema ≡ no_schema → HasHeadAlone mid.now) → (old.now.schema ≡ head_schema → mid.now ≡ old.now) → (old.now.schema ≡ archive_schema → mid.now ≡ old.now)
+    → CanBeOurs old → (mid.now.schema ≡ archive_schema) ⊎ (mid.now.schema ≡ head_schema)
+then_ready old mid blank alone stands (inl has) = inl (ap (λ (d : Database). d.schema) (stands has) ∙ has)
+then_ready old mid blank alone stands (inr (inl has)) = inr (blank has).0
+then_ready old mid blank alone stands (inr (inr has)) = inr (ap (λ (d : Database). d.schema) (alone has) ∙ has)

@@ -11,9 +11,9 @@ use Rattle.sqlite.specs.State.{State, HasCleanDisk, KeepsCommit, Survives}
 use Rattle.iss_tables.specs.declared.adding.HeadColumns.{HeadColumns}
 use Rattle.iss_tables.specs.declared.adding.PostColumns.{PostColumns}
 use Rattle.iss_tables.specs.declared.asking.UserColumns.{UserColumns}
-use Rattle.iss_tables.specs.Tables.{no_schema, archive_schema}
+use Rattle.iss_tables.specs.Tables.{no_schema, head_schema, archive_schema}
 use Rattle.iss_tables.specs.Rows.{columns_of}
-use Rattle.iss_tables.specs.Steps.{PutsPost, PutsPosts, PutsHead, AddsAll, HasHeadAlone, IsEmptyArchive, IsHeadRow, row_of_head, head_row, is_at_most}
+use Rattle.iss_tables.specs.Steps.{PutsPost, PutsPosts, PutsHead, AddsAll, AddsPosts, HasHeadAlone, IsMadeOf, IsHeadRow, row_of_head, head_row, is_at_most}
 use Rattle.iss_tables.specs.Queries.{ShowsHeadOf, ShowsPostsOf, ShowsAboveOf}
 
 -- both tables are there, and nothing else
@@ -51,6 +51,10 @@ HasSetHead head result old new = HasCleanDisk new → OnOk result (IsOurs old �
 -- a transaction that was one still is
 abbrev pub StaysInside : {T E : Type 0} → Result T E → State → State → Type 0
 StaysInside result old new = HasCleanDisk new → IsTrue old.in_transaction → OnOk result (IsTrue new.in_transaction)
+
+-- the connection isn't shut, if it wasn't before
+abbrev pub StaysOpen : {T E : Type 0} → Result T E → State → State → Type 0
+StaysOpen result old new = HasCleanDisk new → IsOurs old → OnOk result (new.is_open ≡ false → old.is_open ≡ false)
 
 -- all postings were put, and the head was set
 abbrev pub HasAdded : {T E : Type 0} → List PostColumns → HeadColumns → Result T E → State → State → Type 0
@@ -91,13 +95,17 @@ SurvivesAdding rows head old new =
 abbrev pub MakesHead : {T E : Type 0} → Result T E → State → State → Type 0
 MakesHead result old new = HasCleanDisk new → OnOk result (old.now.schema ≡ no_schema → HasHeadAlone new.now)
 
--- the table of the postings was made beside it
+-- the table of the postings was made, if that of the head stood alone
 abbrev pub MakesPosts : {T E : Type 0} → Result T E → State → State → Type 0
-MakesPosts result old new = HasCleanDisk new → OnOk result (HasHeadAlone old.now → IsEmptyArchive new.now)
+MakesPosts result old new = HasCleanDisk new → OnOk result (old.now.schema ≡ head_schema → AddsPosts old.now new.now)
 
--- both were made, if nothing was there
+-- those were made that weren't there
 abbrev pub MakesTables : {T E : Type 0} → Result T E → State → State → Type 0
-MakesTables result old new = HasCleanDisk new → OnOk result (old.now.schema ≡ no_schema → IsEmptyArchive new.now)
+MakesTables result old new = HasCleanDisk new → OnOk result (IsMadeOf old.now new.now)
+
+-- the table of the head was left alone, if it stood alone
+abbrev pub LeavesHead : {T E : Type 0} → Result T E → State → State → Type 0
+LeavesHead result old new = HasCleanDisk new → OnOk result (old.now.schema ≡ head_schema → new.now ≡ old.now)
 
 -- if both tables are there, nothing was done
 abbrev pub LeavesOurs : {T E : Type 0} → Result T E → State → State → Type 0

@@ -5,3 +5,4 @@ pub mod Steps
 pub mod Queries
 pub mod Calls
 pub mod Shapes
+pub mod Causes

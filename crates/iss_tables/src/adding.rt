@@ -3,7 +3,8 @@
 ghost use Rattle.std.specs.Prelude.{◌≡◌, false, IsTrue, OnOk};
 ghost use Rattle.sqlite.specs.State.{HasCleanDisk, Survives};
 ghost use Rattle.sqlite.specs.Held.{state};
-ghost use Rattle.iss_tables.specs.Calls.{Keeps, HasPutPost, HasPutPosts, HasSetHead, StaysInside, HasAdded, HasCommitted, HasFailed, SurvivesAdding};
+ghost use Rattle.iss_tables.specs.Causes.{AddCause, PutAllCause, PutCause, SetCause};
+ghost use Rattle.iss_tables.specs.Calls.{Keeps, HasPutPost, HasPutPosts, HasSetHead, StaysInside, StaysOpen, HasAdded, HasCommitted, HasFailed, SurvivesAdding};
 
 use sqlite::{Alter, Connection, Error, Transaction, params};
 
@@ -29,6 +30,8 @@ fn put_post<S: Alter>(tx: &mut Transaction<'_, S>, row: &PostColumns<'_>) -> Res
     ensures kept { Keeps (state S.Store tx.old.conn.now) (state S.Store tx.new.conn.now) }
     ensures stays { HasCleanDisk (state S.Store tx.new.conn.now) → OnOk result (IsTrue tx.new.conn.now.in_transaction) }
     ensures puts { HasPutPost row.now result (state S.Store tx.old.conn.now) (state S.Store tx.new.conn.now) }
+    ensures cause { PutCause row.now result (state S.Store tx.old.conn.now) (state S.Store tx.new.conn.now) }
+    ensures opened { HasCleanDisk (state S.Store tx.new.conn.now) → OnOk result (IsTrue (state S.Store tx.new.conn.now).is_open) }
     ensures survives { Survives (state S.Store tx.old.conn.now) (state S.Store tx.new.conn.now) (λ _. ⊥) }
 {
     tx.execute(
@@ -63,6 +66,7 @@ fn set_head<S: Alter>(tx: &mut Transaction<'_, S>, head: &HeadColumns) -> Result
     ensures stays { HasCleanDisk (state S.Store tx.new.conn.now) → OnOk result (IsTrue tx.new.conn.now.in_transaction) }
     ensures opened { HasCleanDisk (state S.Store tx.new.conn.now) → OnOk result (IsTrue (state S.Store tx.new.conn.now).is_open) }
     ensures sets { HasSetHead head.now result (state S.Store tx.old.conn.now) (state S.Store tx.new.conn.now) }
+    ensures cause { SetCause head.now result (state S.Store tx.old.conn.now) (state S.Store tx.new.conn.now) }
     ensures survives { Survives (state S.Store tx.old.conn.now) (state S.Store tx.new.conn.now) (λ _. ⊥) }
 {
     tx.execute(
@@ -77,6 +81,8 @@ fn put_posts<S: Alter>(tx: &mut Transaction<'_, S>, rows: &[PostColumns<'_>]) ->
     ensures kept { Keeps (state S.Store tx.old.conn.now) (state S.Store tx.new.conn.now) }
     ensures stays { StaysInside result (state S.Store tx.old.conn.now) (state S.Store tx.new.conn.now) }
     ensures puts { HasPutPosts rows.now result (state S.Store tx.old.conn.now) (state S.Store tx.new.conn.now) }
+    ensures shut { StaysOpen result (state S.Store tx.old.conn.now) (state S.Store tx.new.conn.now) }
+    ensures cause { PutAllCause rows.now result (state S.Store tx.old.conn.now) (state S.Store tx.new.conn.now) }
     ensures survives { Survives (state S.Store tx.old.conn.now) (state S.Store tx.new.conn.now) (λ _. ⊥) }
 {
     'rows: for row in rows {
@@ -94,6 +100,7 @@ pub fn add<S: Alter>(
     requires { conn.old.in_transaction ≡ false }
     ensures mode { conn.new.in_transaction ≡ false }
     ensures added { HasAdded rows.now head.now result (state S.Store conn.old) (state S.Store conn.new) }
+    ensures cause { AddCause rows.now head.now result (state S.Store conn.old) (state S.Store conn.new) }
     ensures committed { HasCommitted result (state S.Store conn.old) (state S.Store conn.new) }
     ensures undone { HasFailed result (state S.Store conn.old) (state S.Store conn.new) }
     ensures clean { HasCleanDisk (state S.Store conn.new) → HasCleanDisk (state S.Store conn.old) }

@@ -1,9 +1,14 @@
 //! Reading the head and a user's postings.
 
-ghost use Rattle.std.specs.Prelude.{◌≡◌, false, [], IfOk, IsTrue};
+ghost use Rattle.std.specs.Prelude.{◌≡◌, ◌⊎◌, false, [], IfErr, IfOk, IsTrue};
+ghost use Rattle.sqlite.specs.declared.error.Error.TheVariants.{SqliteFailure};
+ghost use Rattle.sqlite.specs.declared.error.ErrorCode.TheVariants.{OutOfMemory};
 ghost use Rattle.sqlite.specs.State.{HasCleanDisk};
 ghost use Rattle.sqlite.specs.Held.{state};
-ghost use Rattle.iss_tables.specs.Steps.{AreHeadColumns, IsOneHead};
+ghost use Rattle.sqlite.specs.declared.types.Value.TheVariants.{Int};
+ghost use Rattle.sqlite.specs.Order.{column};
+ghost use Rattle.iss_tables.specs.Steps.{AreHeadColumns, AreNoHead, HasNoNumber, IsNoHead, IsOneHead};
+ghost use Rattle.iss_tables.specs.Causes.{AskCause, HeadCause};
 ghost use Rattle.iss_tables.specs.Calls.{KeepsOpen, KeepsOurs, SurvivesOurs, ShowsHead, ShowsPosts, ShowsAbove, ReadsHead, FindsNoneAbove};
 
 use crate::HeadColumns;
@@ -12,6 +17,7 @@ use sqlite::{Alter, Connection, Error, ErrorCode, Row, params};
 /// The rows of the answer for the head.
 fn head_rows<S: Alter>(conn: &mut Connection<S>) -> Result<Vec<Row>, Error>
     ensures shown { ShowsHead result (state S.Store conn.old) (state S.Store conn.new) }
+    ensures cause { AskCause result (state S.Store conn.old) (state S.Store conn.new) }
     ensures opened { KeepsOpen (state S.Store conn.old) (state S.Store conn.new) }
     ensures clean { HasCleanDisk (state S.Store conn.new) → HasCleanDisk (state S.Store conn.old) }
     ensures kept { KeepsOurs (state S.Store conn.old) (state S.Store conn.new) }
@@ -24,20 +30,31 @@ fn head_rows<S: Alter>(conn: &mut Connection<S>) -> Result<Vec<Row>, Error>
     )
 }
 
+/// The number in a column.
+fn number_at(row: &Row, at: usize) -> Result<i64, Error>
+    ensures read { IfOk result (λ n. column row.now at ≡ Int n) }
+    ensures cause { IfErr result (λ e. (e ≡ SqliteFailure OutOfMemory) ⊎ HasNoNumber row.now at) }
+{
+    row.get(at)
+}
+
 /// The columns of a row of that answer.
+#[tactic(auto, using(crate::proofs::HeadReading::no_head))]
 fn head_columns(row: &Row) -> Result<HeadColumns, Error>
-    ensures { IfOk result (λ head. AreHeadColumns head row.now) }
+    ensures read { IfOk result (λ head. AreHeadColumns head row.now) }
+    ensures cause { IfErr result (λ e. (e ≡ SqliteFailure OutOfMemory) ⊎ IsNoHead row.now) }
 {
     Ok(HeadColumns {
-        instance: row.get(0)?,
-        records: row.get(1)?,
-        posts: row.get(2)?,
+        instance: number_at(row, 0)?,
+        records: number_at(row, 1)?,
+        posts: number_at(row, 2)?,
     })
 }
 
 /// The head, or `None` if none was set.
 pub fn read_head<S: Alter>(conn: &mut Connection<S>) -> Result<Option<HeadColumns>, Error>
     ensures read { ReadsHead result (state S.Store conn.old) (state S.Store conn.new) }
+    ensures cause { HeadCause result (state S.Store conn.old) (state S.Store conn.new) }
     ensures opened { KeepsOpen (state S.Store conn.old) (state S.Store conn.new) }
     ensures clean { HasCleanDisk (state S.Store conn.new) → HasCleanDisk (state S.Store conn.old) }
     ensures kept { KeepsOurs (state S.Store conn.old) (state S.Store conn.new) }
@@ -50,7 +67,8 @@ pub fn read_head<S: Alter>(conn: &mut Connection<S>) -> Result<Option<HeadColumn
 
 /// The head of an answer, which has one row or none.
 fn head_of(rows: &[Row]) -> Result<Option<HeadColumns>, Error>
-    ensures { IfOk result (λ head. IsOneHead head rows.now) }
+    ensures read { IfOk result (λ head. IsOneHead head rows.now) }
+    ensures cause { IfErr result (λ e. (e ≡ SqliteFailure OutOfMemory) ⊎ AreNoHead rows.now) }
 {
     match rows {
         [] => Ok(None),
@@ -74,6 +92,7 @@ pub fn read_posts<S: Alter>(
     account: &UserColumns<'_>,
 ) -> Result<Vec<Row>, Error>
     ensures shown { ShowsPosts account.now result (state S.Store conn.old) (state S.Store conn.new) }
+    ensures cause { AskCause result (state S.Store conn.old) (state S.Store conn.new) }
     ensures opened { KeepsOpen (state S.Store conn.old) (state S.Store conn.new) }
     ensures clean { HasCleanDisk (state S.Store conn.new) → HasCleanDisk (state S.Store conn.old) }
     ensures kept { KeepsOurs (state S.Store conn.old) (state S.Store conn.new) }
@@ -90,6 +109,7 @@ pub fn read_posts<S: Alter>(
 /// The numbers of the postings that are above this.
 fn numbers_above<S: Alter>(conn: &mut Connection<S>, most: &i64) -> Result<Vec<Row>, Error>
     ensures shown { ShowsAbove most.now result (state S.Store conn.old) (state S.Store conn.new) }
+    ensures cause { AskCause result (state S.Store conn.old) (state S.Store conn.new) }
     ensures opened { KeepsOpen (state S.Store conn.old) (state S.Store conn.new) }
     ensures clean { HasCleanDisk (state S.Store conn.new) → HasCleanDisk (state S.Store conn.old) }
     ensures kept { KeepsOurs (state S.Store conn.old) (state S.Store conn.new) }
@@ -102,6 +122,7 @@ fn numbers_above<S: Alter>(conn: &mut Connection<S>, most: &i64) -> Result<Vec<R
 /// Whether no posting has a number above this.
 pub fn has_none_above<S: Alter>(conn: &mut Connection<S>, most: &i64) -> Result<bool, Error>
     ensures found { FindsNoneAbove most.now result (state S.Store conn.old) (state S.Store conn.new) }
+    ensures cause { AskCause result (state S.Store conn.old) (state S.Store conn.new) }
     ensures opened { KeepsOpen (state S.Store conn.old) (state S.Store conn.new) }
     ensures clean { HasCleanDisk (state S.Store conn.new) → HasCleanDisk (state S.Store conn.old) }
     ensures kept { KeepsOurs (state S.Store conn.old) (state S.Store conn.new) }

@@ -1,16 +1,22 @@
 //! Making the two tables.
 
+ghost use Rattle.std.specs.Prelude.{◌≤◌};
 ghost use Rattle.sqlite.specs.State.{HasCleanDisk};
 ghost use Rattle.sqlite.specs.Held.{state};
-ghost use Rattle.iss_tables.specs.Calls.{MakesHead, MakesPosts, MakesTables, LeavesOurs, LeavesCommit, IsSettled};
+ghost use Rattle.iss_tables.specs.Calls.{MakesHead, MakesPosts, MakesTables, LeavesHead, LeavesOurs, LeavesCommit, IsSettled};
+ghost use Rattle.iss_tables.specs.Causes.{MakeCause, MakePostCause, OpensMade};
 
 use sqlite::{Alter, Connection, Error};
 
 /// Makes the table of the head, if it isn't there.
 fn make_head<S: Alter>(conn: &mut Connection<S>) -> Result<usize, Error>
     ensures made { MakesHead result (state S.Store conn.old) (state S.Store conn.new) }
+    ensures alone { LeavesHead result (state S.Store conn.old) (state S.Store conn.new) }
     ensures stands { LeavesOurs result (state S.Store conn.old) (state S.Store conn.new) }
+    ensures opened { OpensMade result (state S.Store conn.old) (state S.Store conn.new) }
+    ensures cause { MakeCause result (state S.Store conn.old) (state S.Store conn.new) }
     ensures clean { HasCleanDisk (state S.Store conn.new) → HasCleanDisk (state S.Store conn.old) }
+    ensures counted { (state S.Store conn.old).faults ≤ (state S.Store conn.new).faults }
 {
     conn.execute(
         "CREATE TABLE IF NOT EXISTS head (id INTEGER PRIMARY KEY, instance INTEGER NOT NULL, records INTEGER NOT NULL, \
@@ -23,6 +29,7 @@ fn make_head<S: Alter>(conn: &mut Connection<S>) -> Result<usize, Error>
 fn make_post<S: Alter>(conn: &mut Connection<S>) -> Result<usize, Error>
     ensures made { MakesPosts result (state S.Store conn.old) (state S.Store conn.new) }
     ensures stands { LeavesOurs result (state S.Store conn.old) (state S.Store conn.new) }
+    ensures cause { MakePostCause result (state S.Store conn.old) (state S.Store conn.new) }
     ensures clean { HasCleanDisk (state S.Store conn.new) → HasCleanDisk (state S.Store conn.old) }
 {
     conn.execute(
@@ -36,7 +43,7 @@ fn make_post<S: Alter>(conn: &mut Connection<S>) -> Result<usize, Error>
 /// Makes the two tables of the archive, if they aren't there.
 pub fn make_tables<S: Alter>(conn: &mut Connection<S>) -> Result<(), Error>
     ensures made { MakesTables result (state S.Store conn.old) (state S.Store conn.new) }
-    ensures stands { LeavesOurs result (state S.Store conn.old) (state S.Store conn.new) }
+    ensures cause { MakeCause result (state S.Store conn.old) (state S.Store conn.new) }
 {
     make_head(conn)?;
     make_post(conn)?;

@@ -1,4 +1,4 @@
-use Rattle.std.proofs.Common.{◌≡◌, IsTrue, sym, subst, arith, rules, map}
+use Rattle.std.proofs.Common.{◌≡◌, inr, false, Err, IsTrue, refl, sym, subst, arith, rules, map}
 use Rattle.sqlite.specs.State.{HasCleanDisk, Survives}
 use Rattle.sqlite.specs.Effect.{Database}
 use Rattle.sqlite.specs.Tree.{Trees}
@@ -6,7 +6,9 @@ use Rattle.sqlite.specs.Held.{state}
 use Rattle.sqlite.proofs.StateLemmas.{survives_then}
 use Rattle.sqlite.proofs.Callers.{survives_begin}
 use Rattle.iss_tables.specs.Rows.{columns_of}
-use Rattle.iss_tables.specs.Steps.{AddsAll}
+use Rattle.iss_tables.specs.Steps.{AddsAll, PutsPosts}
+use Rattle.iss_tables.specs.Causes.{FailsToSet}
+use Rattle.iss_tables.proofs.Unput.{set_failed, set_before}
 use Rattle.iss_tables.specs.Tables.{archive_schema}
 use Rattle.iss_tables.proofs.PostLemmas.{puts_schema, on_ok}
 use Rattle.iss_tables.proofs.adding.add.Goals as goal
@@ -47,3 +49,26 @@ returns-clause-survives g c has =
     (λ clean db is. (opened (omega (arith, c.commit.ensures.survives.clean)), _, ran (omega (arith, c.commit.ensures.survives.clean)), is)) (survives_begin g.S.Store old (state g.S.Store last) _ (rw c.transaction-tx.ensures.begun at inside)) c.commit.ensures.survives in
     let same : c.commit.new.self.0 ≡ c.conn-2-1.given.0 = search rules in
     subst (λ h. Survives (state g.S.Store old) (state g.S.Store h) P) same whole
+
+pub returns-in_err-set_head-clause-cause : goal.returns-in_err-set_head-clause-cause
+returns-in_err-set_head-clause-cause g c clean has =
+    let old = c.args.conn.now in
+    let mid = c.put_posts.new.tx.conn.now in
+    let last = c.set_head.new.tx.conn.now in
+    let end = c.drop-tx-in_err-set_head.new.self.0 in
+    let begun = c.transaction-tx.ensures.begun in
+    let same : end ≡ c.conn-in_err-set_head-1.given.0 = search rules in
+    let late : HasCleanDisk (state g.S.Store end) = subst (λ h. HasCleanDisk (state g.S.Store h)) (sym same) clean in
+    let last_clean : HasCleanDisk (state g.S.Store last) = omega (arith, c.drop-tx-in_err-set_head.ensures.survives.clean, late) in
+    let mid_clean : HasCleanDisk (state g.S.Store mid) = omega (arith, c.set_head.ensures.survives.clean, last_clean) in
+    let posts = c.in_ok-put_posts.ensures.puts mid_clean (rw begun has) in
+    let puts : PutsPosts (map columns_of c.args.rows.now) (state g.S.Store old).now (state g.S.Store mid).now = rw begun at posts in
+    let shut : (state g.S.Store mid).is_open ≡ false → (state g.S.Store old).is_open ≡ false = rw begun at (c.in_ok-put_posts.ensures.shut mid_clean (rw begun has)) in
+    let inside : IsTrue (state g.S.Store mid).in_transaction = c.in_ok-put_posts.ensures.stays mid_clean (rw begun refl) in
+    let why = c.in_err-set_head.ensures.cause last_clean (puts_schema _ _ _ (rw begun has) posts) inside in
+    let went : Survives (state g.S.Store old) (state g.S.Store mid) (λ _. ⊥) =
+    survives_begin g.S.Store old (state g.S.Store mid) (λ _. ⊥) (rw begun at c.put_posts.ensures.survives) in
+    let unset = set_failed (map columns_of c.args.rows.now) c.args.head.now (state g.S.Store old) (state g.S.Store mid) (state g.S.Store last) _ went shut puts why in
+    let whole = set_before c.args.head.now (state g.S.Store old) (state g.S.Store last) (state g.S.Store end) _ c.drop-tx-in_err-set_head.ensures.survives.counts unset in
+    let failed : c.from_residual-in_err-set_head.result ≡ Err c.in_err-set_head.field-0.0 = search rules in
+    rw failed (inr (subst (λ h. FailsToSet c.args.head.now (state g.S.Store old) (state g.S.Store h) c.in_err-set_head.field-0.0) same whole))

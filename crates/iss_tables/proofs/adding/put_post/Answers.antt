@@ -1,4 +1,5 @@
-use Rattle.std.proofs.Common.{sym, subst}
+use Rattle.std.proofs.Common.{sym, subst, rules}
+use Rattle.iss_tables.proofs.Refused.{post_unput, fits_row}
 use Rattle.sqlite.specs.State.{KeepsCommit}
 use Rattle.sqlite.specs.Held.{state}
 use Rattle.iss_tables.specs.Rows.{columns_of}
@@ -24,3 +25,9 @@ returns-clause-puts g c clean =
     (λ within. puts_inside _ _ (columns_of c.args.row.now) _
     (rw (c.params-to_sql.ensures, c.params-to_sql-2.ensures, c.params-to_sql-3.ensures, c.params-to_sql-4.ensures, c.params-to_sql-5.ensures, c.params-to_sql-6.ensures, c.params-to_sql-7.ensures, c.params-to_sql-8.ensures, c.params-to_sql-9.ensures, c.params-to_sql-10.ensures, bound_text c.args.row.now.from_user, bound_text c.args.row.now.to_user, bound_text c.args.row.now.txn)
     at (c.execute.ensures.runs clean within)))
+
+pub returns-clause-cause : goal.returns-clause-cause
+returns-clause-cause g c clean has within =
+    post_unput _ _ (columns_of c.args.row.now) _ has (fits_row c.args.row.now.seq (search rules))
+    (rw (c.params-to_sql.ensures, c.params-to_sql-2.ensures, c.params-to_sql-3.ensures, c.params-to_sql-4.ensures, c.params-to_sql-5.ensures, c.params-to_sql-6.ensures, c.params-to_sql-7.ensures, c.params-to_sql-8.ensures, c.params-to_sql-9.ensures, c.params-to_sql-10.ensures, bound_text c.args.row.now.from_user, bound_text c.args.row.now.to_user, bound_text c.args.row.now.txn)
+    at (c.execute.ensures.runs clean within))

@@ -4,6 +4,7 @@ use Rattle.sqlite.proofs.Callers.{IsPlain}
 use Rattle.iss_tables.specs.Texts.{get_head}
 use Rattle.iss_tables.proofs.Compiled.{plain}
 use Rattle.iss_tables.proofs.Reading.{head_answer}
+use Rattle.iss_tables.proofs.Unasked.{head_unasked}
 use Rattle.iss_tables.proofs.Asked.{opened_asked, keeps_asked, survives_asked}
 use Rattle.iss_tables.proofs.asking.head_rows.Goals as goal
 
@@ -22,3 +23,6 @@ returns-clause-opened g c clean = opened_asked _ _ _ _ c.query_all.result (c.que
 
 pub returns-clause-clean : goal.returns-clause-clean
 returns-clause-clean g c clean = omega (arith, c.query_all.ensures.survives.clean)
+
+pub returns-clause-cause : goal.returns-clause-cause
+returns-clause-cause g c clean has = head_unasked _ _ has c.query_all.result (c.query_all.ensures.err clean)

@@ -4,6 +4,7 @@ use Rattle.sqlite.proofs.Callers.{IsPlain}
 use Rattle.iss_tables.specs.Texts.{get_above}
 use Rattle.iss_tables.proofs.Compiled.{above_plain}
 use Rattle.iss_tables.proofs.Reading.{above_answer}
+use Rattle.iss_tables.proofs.Unasked.{above_unasked}
 use Rattle.iss_tables.proofs.Asked.{opened_asked, keeps_asked, survives_asked}
 use Rattle.iss_tables.proofs.asking.numbers_above.Goals as goal
 
@@ -22,3 +23,6 @@ returns-clause-clean g c clean = omega (arith, c.query_all.ensures.survives.clea
 
 pub returns-clause-survives : goal.returns-clause-survives
 returns-clause-survives g c has = survives_asked get_above _ _ _ (subst (λ s. IsPlain (understood s get_above)) (sym has) above_plain.0) c.query_all.ensures.survives
+
+pub returns-clause-cause : goal.returns-clause-cause
+returns-clause-cause g c clean has = above_unasked _ _ has c.args.most.now c.query_all.result (rw c.params-to_sql.ensures at (c.query_all.ensures.err clean))

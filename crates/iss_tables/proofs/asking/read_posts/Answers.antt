@@ -4,6 +4,7 @@ use Rattle.sqlite.proofs.Callers.{IsPlain}
 use Rattle.iss_tables.specs.Texts.{get_posts}
 use Rattle.iss_tables.proofs.Compiled.{plain}
 use Rattle.iss_tables.proofs.Reading.{posts_answer}
+use Rattle.iss_tables.proofs.Unasked.{posts_unasked}
 use Rattle.iss_tables.proofs.Asked.{opened_asked, keeps_asked, survives_asked}
 use Rattle.iss_tables.proofs.asking.read_posts.Goals as goal
 
@@ -22,3 +23,7 @@ returns-clause-opened g c clean = opened_asked _ _ _ _ c.query_all.result (c.que
 
 pub returns-clause-clean : goal.returns-clause-clean
 returns-clause-clean g c clean = omega (arith, c.query_all.ensures.survives.clean)
+
+pub returns-clause-cause : goal.returns-clause-cause
+returns-clause-cause g c clean has = posts_unasked _ _ has c.args.account.now.user.now c.args.account.now.currency c.query_all.result
+    (rw (c.params-to_sql.ensures, c.params-to_sql-2.ensures) at (c.query_all.ensures.err clean))
