@@ -79,8 +79,8 @@ fn is_txn(row: &PostRow, names: &Names) -> bool {
     }
 }
 
-/// All that the tests ask of a keeper: what three runs archive, the user's postings, those of a user that there isn't, and those in
-/// another currency.
+/// All that the tests ask of a keeper: what three runs archive, and the postings of the user, of one that there isn't, and of
+/// the user in another currency.
 fn asked<K: Keeper>(
     keeper: &mut K,
     names: &Names,
@@ -168,12 +168,12 @@ fn a_database_is_taken_up_again(rt: HostRuntime) -> Result<(), Fail> {
     Ok(())
 }
 
-/// The second run's `add` is its third call: a call is made for each of five records and their heads before it, and one for its head.
+/// Ten calls archive five records, and the eleventh reads their head. The twelfth is to add the sixth record.
 #[test]
 fn a_failed_call_leaves_five_records(rt: HostRuntime) -> Result<(), Fail> {
     let alloc = rt.alloc();
     let names = names().ok_or("no token")?;
-    let left = with_failures(alloc, &names, vec![in alloc; 17]?).ok_or("no keeper")?;
+    let left = with_failures(alloc, &names, vec![in alloc; 12]?).ok_or("no keeper")?;
     assert_eq!(rt; left, (true, (5, 1)));
     Ok(())
 }

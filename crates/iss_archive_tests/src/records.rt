@@ -1,7 +1,7 @@
 //! Six records of a device, archived one after the other over any keeper.
 //!
-//! The first four make a product, a user, a card and an authorisation. The fifth is the gateway's answer, which funds it, and the sixth
-//! is its clearing.
+//! The first four make a product, a user, a card and an authorisation. The fifth is the gateway's answer, which funds it, and
+//! the sixth is its clearing.
 
 ghost use Rattle.std.specs.Prelude.{◌≡◌, ◌+◌, true, Ok, IfOk, IfSome};
 ghost use Rattle.iss_archive.specs.Archived.{has_one_currency, records_in, posts_in};

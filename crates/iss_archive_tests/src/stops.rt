@@ -87,8 +87,8 @@ fn found_after(alloc: Global, mut left: Left) -> Option<(u32, u64)> {
     found(&mut keeper).ok()
 }
 
-/// Whether the sixth record is archived in files of which the log stops after `log` calls and the database after `db`, and what an
-/// open after that finds.
+/// Archives a sixth record in files of which the log stops after `log` calls, and the database after `db`. It says whether
+/// that came to its end, and what an open after it finds.
 fn stopped(alloc: Global, log: u64, db: u64, names: &Names) -> Option<(bool, (u32, u64))> {
     let files = prepared(alloc, names)?;
     let fused = Files {
@@ -111,8 +111,8 @@ enum Stops {
     Database,
 }
 
-/// Stops a file after each number of calls, from `from` on. It says whether a run came to its end, before `to` calls, and `None` if a
-/// stop left anything else than five records or six.
+/// Stops a file after each number of calls, from `from` on, and says whether a run came to its end before `to` calls. It is
+/// `None` if a stop left anything else than five records or six.
 fn stops(alloc: Global, file: Stops, from: u64, to: u64) -> Option<bool> {
     let names = names()?;
     for calls in from..to {

@@ -58,9 +58,14 @@ impl<S: Alter + Drop> SqliteKeeper<S> {
     pub fn into_connection(self) -> Option<Connection<S>>
         ensures { result ≡ option_or self.database self.refused }
     {
-        match self.database {
+        let SqliteKeeper {
+            database,
+            refused,
+            faults: _,
+        } = self;
+        match database {
             Some(database) => Some(database.into_connection()),
-            None => self.refused,
+            None => refused,
         }
     }
 }

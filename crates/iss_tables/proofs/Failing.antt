@@ -1,6 +1,5 @@
 -- Why a statement failed.
-use Rattle.std.proofs.Common.{◌≡◌, ◌≢◌, ◌⊎◌, inl, inr, ℕ, ◌≤◌, Bool, true, false, ◌||◌, MatchBool, List, [], ◌∷◌, length, Option, Some, None, Ok, Err, Result, IfErr, Vec, IsTrue, IsSome, refl, sym, ap, subst, ◌∙◌, arith, append-nil}
-use Rattle.std.specs.Global.{Global}
+use Rattle.std.proofs.Common.{◌≡◌, ◌⊎◌, inl, inr, ℕ, ◌≤◌, Bool, false, List, length, Option, Some, None, Ok, Err, Result, IsTrue, IsSome, refl, sym, ap, subst, ◌∙◌, arith, append-nil}
 use Rattle.sqlite_trees.specs.declared.error.StoreError.{StoreError}
 use Rattle.sqlite_trees.specs.declared.error.StoreError.TheVariants.{OutOfMemory, Io, Corrupt, Full, Broken, Unstorable}
 use Rattle.sqlite_schema.specs.declared.schema.Schema.{Schema}
@@ -12,7 +11,7 @@ use Rattle.sqlite.specs.declared.error.ErrorCode.TheVariants as code
 use Rattle.sqlite.specs.declared.error.Error.{Error}
 use Rattle.sqlite.specs.declared.error.Error.TheVariants.{SqliteFailure}
 use Rattle.sqlite.specs.Order.{Row}
-use Rattle.sqlite.specs.Effect.{Database, RefusesToRead}
+use Rattle.sqlite.specs.Effect.{RefusesToRead}
 use Rattle.sqlite.specs.Listing.{understood, reads_listing, IsSourceOf}
 use Rattle.sqlite.specs.Clock.{timed}
 use Rattle.sqlite.specs.State.{State, Fails, HasCause, store_error, IsNotRun, FailsToQuery, IsMisplaced, Escapes, EndsScope, ExecutesIn, Executes, ExecutesInside, RunsCommand, shows_rows, mode_of}
@@ -21,7 +20,7 @@ use Rattle.sqlite.specs.Does.{Does}
 use Rattle.sqlite_schema.specs.declared.command.Command.TheVariants.{Nothing}
 use Rattle.std.proofs.Common.{subst₂}
 use Rattle.sqlite.proofs.Callers.{IsPlain, command_of, statement_of}
-use Rattle.iss_tables.specs.Causes.{FailsByDisk, FailsByStore}
+use Rattle.iss_tables.specs.Causes.{FailsByStore}
 
 -- the failure of a store, by the name that it is given
 pub by_store : (old new : State) (big : Type 0) (e : Error) → Fails old new big e → FailsByStore old new e ⊎ ((e ≡ SqliteFailure code.TooBig) × big)

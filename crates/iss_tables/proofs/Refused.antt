@@ -1,5 +1,5 @@
 -- Why a posting isn't put.
-use Rattle.std.proofs.Common.{◌≡◌, ◌⊎◌, inl, inr, ℕ, ℤ, zero, suc, Bool, true, false, List, [], ◌∷◌, ◌++◌, length, length-append, Option, Some, None, Ok, Err, Result, IfErr, refl, sym, ap, subst, ◌∙◌, arith}
+use Rattle.std.proofs.Common.{◌≡◌, ◌⊎◌, inl, inr, ℕ, ℤ, zero, suc, Bool, true, false, List, [], ◌∷◌, length, length-append, Option, Some, None, Ok, Err, Result, IfErr, refl, sym, ap, subst, ◌∙◌, arith}
 use Rattle.std.specs.List.{AllByRecursion, list_all}
 use Rattle.sqlite_schema.specs.declared.schema.Constraint.TheVariants as rule
 use Rattle.sqlite_schema.specs.declared.schema.Keys.{Keys}
@@ -24,13 +24,13 @@ use Rattle.sqlite.specs.Edit.{edit_of, edited, numbered}
 use Rattle.sqlite.specs.Rowids.TheVariants.{Chosen}
 use Rattle.sqlite.specs.Source.TheVariants.{Values}
 use Rattle.sqlite.specs.Command.TheVariants.{Insert}
-use Rattle.sqlite.specs.Effect.{Database, edit_error}
+use Rattle.sqlite.specs.Effect.{edit_error}
 use Rattle.sqlite.specs.Rows.{Edited, Sourced, stamped}
 use Rattle.sqlite.specs.Does.{Does}
 use Rattle.sqlite.specs.State.{State, ExecutesInside, mode_of}
 use Rattle.iss_tables.specs.Tables.{post_table, archive_schema}
 use Rattle.iss_tables.specs.Rows.{Columns, given, stored}
-use Rattle.std.proofs.Common.{pos, negsuc, ◌<◌, ◌^◌, FitsSigned, w64, lt-ltb}
+use Rattle.std.proofs.Common.{pos, negsuc, ◌^◌, FitsSigned, w64, lt-ltb}
 use Rattle.std.proofs.lemmas.Int.{ints}
 use Rattle.sqlite.specs.Listing.{understood}
 use Rattle.sqlite.proofs.Callers.{statement_of}

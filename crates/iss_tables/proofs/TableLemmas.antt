@@ -11,7 +11,7 @@ use Rattle.iss_tables.specs.Tables.{head_table, post_table_at, no_schema, head_s
 use Rattle.iss_tables.specs.Texts.{make_head, make_post}
 use Rattle.iss_tables.proofs.Compiled.{head_made, post_made, head_creates, post_creates, head_stands, head_stands_alone, post_stands, texts_are, plain, head_whole}
 use Rattle.sqlite.specs.declared.error.Error.{Error}
-use Rattle.iss_tables.specs.Steps.{HasHeadAlone, AddsPosts, IsEmptyArchive, IsMadeOf}
+use Rattle.iss_tables.specs.Steps.{HasHeadAlone, AddsPosts, IsMadeOf}
 use Rattle.iss_tables.specs.Causes.{CanBeOurs}
 use Rattle.iss_tables.proofs.PostLemmas.{went, same_value}
 

@@ -1,5 +1,5 @@
 -- Why a question to our tables has no answer.
-use Rattle.std.proofs.Common.{◌≡◌, ◌⊎◌, inl, inr, codes, ℕ, ℤ, pos, Bool, true, false, List, [], ◌∷◌, length, filter, map, Option, Some, None, Ok, Err, Result, IfErr, Vec, IsPermutation, refl, sym, ap, subst, ◌∙◌, arith}
+use Rattle.std.proofs.Common.{◌≡◌, ◌⊎◌, inl, inr, codes, ℕ, ℤ, true, List, [], ◌∷◌, Ok, Err, Result, IfErr, Vec, refl, sym, subst, ◌∙◌}
 use Rattle.std.specs.Global.{Global}
 use Rattle.sqlite_sql.specs.Program.{ProgramOverflows}
 use Rattle.sqlite_typing.specs.Types.{accepts_program}
@@ -9,8 +9,7 @@ use Rattle.sqlite.specs.Order.{Row}
 use Rattle.sqlite.specs.Query.{Query}
 use Rattle.sqlite.specs.Tree.{Trees}
 use Rattle.sqlite.specs.Command.TheVariants.{Select}
-use Rattle.sqlite.specs.Effect.{Database, RefusesQuery}
-use Rattle.sqlite.specs.Listing.{understood}
+use Rattle.sqlite.specs.Effect.{RefusesQuery}
 use Rattle.sqlite.specs.State.{State, Fails, FailsToQuery}
 use Rattle.iss_tables.specs.Tables.{archive_schema}
 use Rattle.iss_tables.specs.Texts.{get_head, get_posts, get_above}

@@ -5,14 +5,14 @@ use Rattle.std.proofs.lemmas.Bool.Decides.{nat_tests}
 use Rattle.sqlite_trees.specs.Sound as sound
 use Rattle.sqlite_trees.specs.Sound.{fits_kind, is_free_name, begins}
 use Rattle.sqlite.specs.Order.{value_cmp}
-use Rattle.std.proofs.Common.{zero, suc, ◌&&◌, nat_lt, IsAscii, ◌≡◌, ◌⊎◌, inl, inr, ℕ, ◌+◌, ◌*◌, ◌≤◌, ◌<◌, ◌^◌, Bool, true, false, List, [], ◌∷◌, codes, length, Option, Some, None, Ok, Err, Result, IfErr, OnOk, IsUtf8, IsTrue, refl, sym, ap, subst, ◌∙◌, arith}
+use Rattle.std.proofs.Common.{zero, suc, ◌&&◌, nat_lt, IsAscii, ◌≡◌, ◌⊎◌, inl, inr, ℕ, ◌+◌, ◌*◌, ◌≤◌, Bool, true, false, List, [], ◌∷◌, codes, length, Option, Some, None, Ok, Err, Result, IfErr, IsUtf8, refl, sym, ap, subst, ◌∙◌, arith}
 use Rattle.sqlite.specs.Table.{Table}
 use Rattle.sqlite.specs.Schema.{Schema}
 use Rattle.sqlite_schema.specs.Rules.{table_reals}
 use Rattle.sqlite_rules.specs.Lists.{Has}
 use Rattle.sqlite_catalog.specs.declared.error.Refusal.{Refusal}
 use Rattle.sqlite_catalog.specs.declared.error.Refusal.TheVariants as why
-use Rattle.sqlite_catalog.specs.Calls.{RefusesTable, IsLongTable}
+use Rattle.sqlite_catalog.specs.Calls.{RefusesTable}
 use Rattle.sqlite_catalog.specs.Change.{is_used, is_reserved, automatics}
 use Rattle.sqlite_catalog.specs.Listing.{is_fit, is_formed}
 use Rattle.sqlite.specs.Change.{created, next_tree}

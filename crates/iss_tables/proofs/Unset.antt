@@ -1,5 +1,5 @@
 -- Why the head isn't set.
-use Rattle.std.proofs.Common.{◌≡◌, ◌⊎◌, inl, inr, ℕ, ℤ, pos, Bool, true, false, not, ◌&&◌, ◌||◌, List, [], ◌∷◌, map, Option, Some, None, Ok, Err, Result, IfErr, IsSome, option_map, refl, sym, ap, subst, ◌∙◌}
+use Rattle.std.proofs.Common.{◌≡◌, ◌⊎◌, inl, inr, ℕ, ℤ, pos, Bool, true, false, not, ◌&&◌, ◌||◌, List, [], ◌∷◌, Option, Some, None, Ok, Err, Result, IfErr, IsSome, option_map, refl, sym, ap, subst, ◌∙◌}
 use Rattle.std.specs.List.{list_all, list_any}
 use Rattle.std.specs.Ordering.{is_eq}
 use Rattle.std.proofs.lemmas.Cmp.{tied_itself}
@@ -19,7 +19,7 @@ use Rattle.sqlite_rules.specs.Steps.{IsJudged}
 use Rattle.sqlite_rules.specs.Calls.{ids_of}
 use Rattle.sqlite_rules.specs.declared.error.Refusal.{Refusal}
 use Rattle.sqlite_rules.specs.declared.error.Refusal.TheVariants as refusal
-use Rattle.sqlite_rules.specs.Edit.{Edit, IsRefused, IsOversized, is_taken, without_all, id_in}
+use Rattle.sqlite_rules.specs.Edit.{Edit, IsRefused, IsOversized, without_all, id_in}
 use Rattle.sqlite_rules.proofs.ListLemmas.{has_filtered}
 use Rattle.sqlite_rules.proofs.TableLemmas.{int_is, without_all_has}
 use Rattle.sqlite.specs.declared.types.Value.TheVariants.{Int}
@@ -33,7 +33,7 @@ use Rattle.sqlite_trees.specs.Tree.{with_tree}
 use Rattle.sqlite.specs.Rowids.TheVariants.{Given}
 use Rattle.sqlite.specs.Source.TheVariants.{Values}
 use Rattle.sqlite.specs.Command.TheVariants.{InsertOr}
-use Rattle.sqlite.specs.Effect.{Database, edit_error, value_rows}
+use Rattle.sqlite.specs.Effect.{edit_error, value_rows}
 use Rattle.sqlite.specs.Rows.{Clears, Puts, Judged, Tries, TriesEach, InsertsOr, Sourced, Edited, stamped, nothing}
 use Rattle.sqlite.specs.Does.{Does}
 use Rattle.sqlite.specs.Listing.{understood}

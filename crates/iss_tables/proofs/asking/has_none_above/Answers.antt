@@ -1,4 +1,4 @@
-use Rattle.std.proofs.Common.{◌≡◌, [], IsTrue, subst, rules}
+use Rattle.std.proofs.Common.{◌≡◌, [], subst, rules}
 use Rattle.iss_tables.proofs.HeadReading.{none_above_by}
 use Rattle.iss_tables.proofs.asking.has_none_above.Goals as goal
 
