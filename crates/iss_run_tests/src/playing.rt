@@ -272,17 +272,16 @@ fn moves_of(alloc: Global, count: usize) -> Result<String, AllocError> {
     let mut lines = format!(in alloc;
         "{{\"type\":\"user\",\"token\":\"q10\",\"user\":\"{MOVING_USER}\"}}\n"
     )?;
-    let mut state = "SUSPENDED";
     for number in (11usize..).take(count) {
-        let line = format!(in alloc;
-            "{{\"type\":\"move\",\"token\":\"q{number}\",\"user\":\"{MOVING_USER}\",\"to\":\"{state}\"}}\n"
-        )?;
-        lines.push_str(line.as_str())?;
-        state = if state == "ACTIVE" {
+        let state = if number % 2 == 1 {
             "SUSPENDED"
         } else {
             "ACTIVE"
         };
+        let line = format!(in alloc;
+            "{{\"type\":\"move\",\"token\":\"q{number}\",\"user\":\"{MOVING_USER}\",\"to\":\"{state}\"}}\n"
+        )?;
+        lines.push_str(line.as_str())?;
     }
     Ok(lines)
 }

@@ -169,11 +169,11 @@ fn each_call_of_a_day_from_noon_on_may_fail(rt: HostRuntime) -> Result<(), Fail>
 }
 
 /// Whether the next run goes on if the call of this number fails. Unless the device failed, what stands is what that run made.
-fn is_left_well(
+fn is_left_well<'a>(
     alloc: Global,
-    row: &Run,
-    start: &[u8],
-    whole: &Played,
+    row: &'a Run,
+    start: &'a [u8],
+    whole: &'a Played,
     failing: u64,
 ) -> Result<bool, AllocError> {
     let played = play(alloc, row, row.comes, start, failing)?;
@@ -186,7 +186,7 @@ fn is_left_well(
         row,
         start,
         made,
-        whole: None,
+        is_whole: false,
     };
     goes_on_after(alloc, &serving, played.edge.trace())
 }

@@ -1,7 +1,7 @@
 //! Runs that stop: after each action, some of the images that it may leave, and the runs that come next on each.
 use crate::images::{WAYS, image_length, image_of, is_front, point_on, records_on};
 use crate::padded::{IMAGE_LENGTH, padded, padded_day};
-use crate::playing::{OPENING, Played, Run, play, start_of};
+use crate::playing::{OPENING, Played, Run, Waiting, play, start_of};
 use crate::replays::lines;
 use crate::serving::served;
 use crate::told::level;
@@ -36,22 +36,25 @@ fn bytes_at(actions: &[Action], number: usize) -> Option<&[u8]> {
 
 /// Whether an opening writes the texts of this run that wait, as many records as now stand on its device, and no other.
 fn says_what_waits(row: &Run, whole: &Played, opened: &Played) -> bool {
-    let waiting = match row.waiting {
-        Some(waiting) => waiting,
-        None => return true,
-    };
     let (count, _) = records_on(opened.edge.device());
+    match row.waiting {
+        Some(waiting) => are_said(waiting, count, whole.edge.trace(), opened.edge.trace()),
+        None => true,
+    }
+}
+
+/// Whether those of these texts are said that wait at this number of records, in their order, and no other.
+fn are_said(waiting: &[Waiting], count: usize, whole: &[Action], said: &[Action]) -> bool {
     let mut number = 0usize;
     for text in waiting {
         if text.from <= count && count < text.until {
-            let said = bytes_at(opened.edge.trace(), number);
-            if said != bytes_at(whole.edge.trace(), text.text) {
+            if bytes_at(said, number) != bytes_at(whole, text.text) {
                 return false;
             }
             number = number.saturating_add(1);
         }
     }
-    bytes_at(opened.edge.trace(), number).is_none()
+    bytes_at(said, number).is_none()
 }
 
 /// Whether each image after these actions has the records that stood first, and those of texts of which a byte went out. All of
@@ -206,12 +209,12 @@ pub(crate) struct Serving<'a> {
     pub(crate) start: &'a [u8],
     /// The run by which the records were made.
     pub(crate) made: &'a Played,
-    /// That run, if none of its calls failed: the next one sends the gateway no other text.
-    pub(crate) whole: Option<&'a Played>,
+    /// Whether none of its calls failed: then the next run sends the gateway no other text.
+    pub(crate) is_whole: bool,
 }
 
-/// Whether the next run on an image goes on. It ends well, and first sends what waits. To the gateway it sends what the whole run sent,
-/// if there is one. Then it answers again what these actions answered.
+/// Whether the next run on an image goes on. It ends well, and first sends what waits. If no call of the run failed,
+/// it sends the gateway no other text. Then it answers again what these actions answered.
 fn goes_on(
     alloc: Global,
     serving: &Serving,
@@ -231,10 +234,7 @@ fn goes_on(
     };
     let next = play(alloc, &again, again.comes, image, 0)?;
     let sent = next.edge.trace();
-    let asks_the_same = match serving.whole {
-        Some(whole) => are_sent(sent, whole.edge.trace(), true),
-        None => true,
-    };
+    let asks_the_same = !serving.is_whole || are_sent(sent, serving.made.edge.trace(), true);
     Ok(
         next.status == 0
             && are_asked_first(waited.edge.trace(), sent)
@@ -266,11 +266,7 @@ fn first_bad_serving(alloc: Global, row: &Run) -> Result<Option<usize>, AllocErr
         row,
         start: &start,
         made: &made,
-        whole: if row.fails.is_empty() {
-            Some(&made)
-        } else {
-            None
-        },
+        is_whole: row.fails.is_empty(),
     };
     for count in 0..=made.edge.trace().len() {
         if !goes_on_after(alloc, &serving, actions_until(&made.edge, count))? {
