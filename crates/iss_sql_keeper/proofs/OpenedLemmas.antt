@@ -12,7 +12,7 @@ use Rattle.iss_tables.specs.Calls.{IsOurs}
 use Rattle.iss_sql_keeper.specs.Decoded.{archived_in, head_in, posting_in, seq_of}
 use Rattle.iss_sql_keeper.specs.Numbered.{in_order}
 use Rattle.iss_sql_keeper.specs.Shown.{Stays, told_in, told_of}
-use Rattle.iss_sql_keeper.specs.Opened.{head_alone_in, IsHeldIn, HoldsOn}
+use Rattle.iss_sql_keeper.specs.Opened.{IsHeldIn, IsHeldBy, HoldsOn}
 use Rattle.iss_sql_keeper.proofs.ShownLemmas.{clean_from}
 
 -- without a posting, only the head is archived
@@ -43,3 +43,10 @@ told_held old new held = by new.is_open new.is_clean refl refl
 pub ok_anyway : {T E : Type 0} {P : T → Type 0} (r : Result T E) → ((x : T) → P x) → IfOk r P
 ok_anyway (Ok x) all = all x
 ok_anyway (Err e) all = tt
+
+-- the same of a keeper over a connection that was opened as an archive
+pub told_at : {S R : Type 0} (shown : S → State) (conn : Option S) (c d : S) (opened : Result S R) → conn ≡ Some c → opened ≡ Ok d → IfOk opened (λ x. HoldsOn (shown c) (shown x))
+    → IfSome (told_in (shown d)) (IsHeldBy shown conn)
+told_at {S = S} {R = R} shown conn c d opened is done held =
+    let it : HoldsOn (shown c) (shown d) = subst (λ (r : Result S R). IfOk r (λ x. HoldsOn (shown c) (shown x))) done held in
+    subst (λ (o : Option S). IfSome (told_in (shown d)) (IsHeldBy shown o)) (sym is) (told_held (shown c) (shown d) it)

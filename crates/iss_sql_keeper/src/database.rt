@@ -1,6 +1,6 @@
 //! A database that is an archive.
 
-ghost use Rattle.std.specs.Prelude.{IfOk, IfSome, IsTrue};
+ghost use Rattle.std.specs.Prelude.{◌≡◌, IfOk, IfSome, IsTrue};
 ghost use Rattle.sqlite.specs.Held.{state};
 ghost use Rattle.iss_archive.specs.Archived.{Follows};
 ghost use Rattle.iss_archive.specs.Statable.{is_statable};

@@ -28,7 +28,6 @@ impl<S: Alter + Drop> SqliteKeeper<S> {
     /// A keeper over this connection, or over none if the database can't be opened. The two tables are made if they aren't there.
     ///
     /// What it tells is what the tables held, and that nothing is archived in a table that it made.
-    #[tactic(auto, using(crate::proofs::OpenedLemmas::told_held))]
     pub fn new(alloc: Global, conn: Option<Connection<S>>) -> Result<SqliteKeeper<S>, AllocError>
         ensures faults { IfOk result (λ k. ⟦<SqliteKeeper<S> as Keeper>⟧.faults k ≡ 0) }
         ensures told { IfOk result (λ k. IfSome (⟦<SqliteKeeper<S> as Keeper>⟧.told k) (IsHeldBy (state S.Store) conn)) }
