@@ -1,0 +1,5 @@
+pub mod Openings
+pub mod Tellings
+pub mod Images
+pub mod Refusals
+pub mod Emits

@@ -1,0 +1,5 @@
+pub mod Statuses
+pub mod Moments
+pub mod Holdings
+pub mod Causes
+pub mod Refusals
