@@ -1,5 +1,5 @@
 -- What adding a record's postings makes of the archive.
-use Rattle.std.proofs.Common.{◌≡◌, ◌⊎◌, inl, inr, ℕ, ℤ, pos, negsuc, ◌<ℤ◌, ◌+◌, ◌<◌, ◌≤◌, Bool, true, false, T, nat_lt, not, ◌&&◌, List, [], ◌∷◌, ◌++◌, length, map, Option, Some, None, option_map, refl, sym, ap, subst, append-nil, suc, ◌∙◌, arith}
+use Rattle.std.proofs.Common.{◌≡◌, ℕ, ℤ, pos, negsuc, ◌<ℤ◌, ◌+◌, ◌<◌, ◌≤◌, Bool, true, false, T, nat_lt, not, ◌&&◌, List, [], ◌∷◌, ◌++◌, length, map, Some, option_map, refl, sym, ap, subst, append-nil, suc, ◌∙◌, arith}
 use Rattle.std.proofs.lemmas.Bool.Decides.{nat_tests}
 use Rattle.std.specs.declared.cmp.Ordering.{Ordering}
 use Rattle.std.specs.declared.cmp.Ordering.TheVariants.{Less, Equal, Greater}
@@ -16,11 +16,11 @@ use Rattle.sqlite.specs.Effect.{Database}
 use Rattle.sqlite_value.proofs.OrderLemmas.{value_cmp_total, value_cmp-Int}
 use Rattle.iss_archive.specs.declared.post.Head.{Head}
 use Rattle.iss_archive.specs.declared.post.PostRow.{PostRow}
-use Rattle.iss_archive.specs.Archived.{Archived, Follows, AreNumberedFrom, posts_in}
+use Rattle.iss_archive.specs.Archived.{Follows, AreNumberedFrom, posts_in}
 use Rattle.iss_tables.specs.declared.adding.PostColumns.{PostColumns}
 use Rattle.iss_tables.specs.declared.adding.HeadColumns.{HeadColumns}
-use Rattle.iss_tables.specs.Rows.{Columns, columns_of, stored}
-use Rattle.iss_tables.specs.Steps.{PutsPost, PutsPosts, PutsHead, AddsAll, head_row, is_at_most}
+use Rattle.iss_tables.specs.Rows.{columns_of, stored}
+use Rattle.iss_tables.specs.Steps.{PutsPosts, AddsAll, head_row, is_at_most}
 use Rattle.iss_sql_keeper.specs.Numbered.{in_order}
 use Rattle.iss_sql_keeper.specs.Decoded.{natural, number_in, posting_in, head_in, head_of, seq_of, archived_in}
 use Rattle.iss_sql_keeper.specs.Given.{posting_given}

@@ -1,13 +1,12 @@
 -- What adding does to what is told, and to what a stop leaves.
-use Rattle.std.proofs.Common.{◌≡◌, ◌⊎◌, inl, inr, true, false, List, ◌++◌, map, Option, Some, None, Result, Ok, Err, OnOk, OnErr, IfSome, IsSomeAnd, IsTrue, refl, sym, ap, subst, ◌∙◌, arith}
+use Rattle.std.proofs.Common.{◌≡◌, ◌⊎◌, inl, inr, false, List, ◌++◌, map, Option, Some, Result, Ok, Err, OnOk, OnErr, IfSome, IsSomeAnd, IsTrue, sym, ap, subst, ◌∙◌}
 use Rattle.sqlite.specs.Effect.{Database}
-use Rattle.sqlite.specs.Tree.{Trees}
 use Rattle.sqlite.specs.declared.error.Error.{Error}
-use Rattle.sqlite.specs.State.{State, HasCleanDisk, Survives}
+use Rattle.sqlite.specs.State.{State, HasCleanDisk}
 use Rattle.iss_archive.specs.declared.post.Head.{Head}
 use Rattle.iss_archive.specs.declared.post.KeepFault.{KeepFault}
 use Rattle.iss_archive.specs.declared.post.PostRow.{PostRow}
-use Rattle.iss_archive.specs.Archived.{Archived, Adds, Follows, Same, Told}
+use Rattle.iss_archive.specs.Archived.{Archived, Adds, Follows, Told}
 use Rattle.iss_tables.specs.declared.adding.PostColumns.{PostColumns}
 use Rattle.iss_tables.specs.declared.adding.HeadColumns.{HeadColumns}
 use Rattle.iss_tables.specs.Calls.{IsOurs, IsSettled, HasAdded, IsCommitted, HasUndone, SurvivesAdding}
@@ -15,7 +14,7 @@ use Rattle.iss_tables.specs.Rows.{columns_of}
 use Rattle.iss_tables.specs.Steps.{AddsAll}
 use Rattle.iss_sql_keeper.specs.Decoded.{archived_in, head_of}
 use Rattle.iss_sql_keeper.specs.Given.{posting_given}
-use Rattle.iss_sql_keeper.specs.Shown.{HasAddedTo, IsKept, IsArchive, LeavesAdded, LeftIn, Stays, told_in}
+use Rattle.iss_sql_keeper.specs.Shown.{HasAddedTo, IsKept, LeavesAdded, LeftIn, Stays, told_in}
 use Rattle.iss_sql_keeper.proofs.AddedLemmas.{adds_record}
 use Rattle.iss_sql_keeper.proofs.ShownLemmas.{told_is, told_by, stays_kept}
 

@@ -1,5 +1,5 @@
 -- The answer to the question for a user's postings is all of them, in order.
-use Rattle.std.proofs.Common.{◌≡◌, ◌⊎◌, inl, inr, ℕ, ℤ, pos, negsuc, ◌==◌, find, ◌+ℤ◌, ◌≤◌, ◌+◌, nat_le, Bool, true, false, Decides, cond, not, ◌&&◌, ◌||◌, List, [], ◌∷◌, map, filter, Option, Some, None, IsPermutation, IfOk, refl, sym, ap, subst, ◌∙◌, arith}
+use Rattle.std.proofs.Common.{◌≡◌, ℕ, ℤ, pos, negsuc, ◌==◌, find, ◌+ℤ◌, ◌≤◌, ◌+◌, nat_le, Bool, true, false, Decides, cond, not, ◌&&◌, List, [], ◌∷◌, map, filter, Option, Some, None, IsPermutation, refl, sym, ap, subst, ◌∙◌, arith}
 use Rattle.std.proofs.lemmas.Bool.Decides.{nat_tests}
 use Rattle.std.specs.List.{list_all, AllByRecursion}
 use Rattle.std.specs.Str.{bytes_eq}
@@ -20,7 +20,6 @@ use Rattle.std.proofs.lemmas.Slice.Eq.{bytes_eq-Decides}
 use Rattle.iss_model.specs.declared.currency.Currency.TheVariants.{Usd, Eur, Gbp, Cad, Aud, Jpy, Kwd}
 use Rattle.iss_model.specs.declared.account.Account.TheVariants as account
 use Rattle.iss_model.specs.Currencies.{iso_number, same_currency, currencies}
-use Rattle.iss_model.specs.Sums.{account_currency}
 use Rattle.iss_model.specs.declared.currency.Currency.{Currency}
 use Rattle.iss_archive.specs.declared.post.PostRow.{PostRow}
 use Rattle.iss_archive.specs.Archived.{is_users, is_of_user}

@@ -1,17 +1,13 @@
 -- What a keeper tells once it is made.
-use Rattle.std.proofs.Common.{◌≡◌, Bool, true, false, cond, ◌&&◌, [], List, map, Option, Some, None, option_map, Result, Ok, Err, IfOk, IfSome, IsSomeAnd, IsTrue, refl, sym, ap, ap₂, subst, ◌∙◌}
+use Rattle.std.proofs.Common.{◌≡◌, Bool, true, false, cond, ◌&&◌, [], List, map, Option, Some, None, option_map, Result, Ok, Err, IfOk, IfSome, IsTrue, refl, sym, ap, subst, ◌∙◌}
 use Rattle.sqlite.specs.Tree.{Trees}
 use Rattle.sqlite.specs.Effect.{Database}
 use Rattle.sqlite.specs.Order.{Row}
 use Rattle.sqlite.specs.State.{State, HasCleanDisk}
-use Rattle.iss_archive.specs.Archived.{Archived, nothing_archived}
-use Rattle.iss_archive.specs.declared.post.PostRow.{PostRow}
-use Rattle.iss_tables.specs.Tables.{no_schema, head_schema}
 use Rattle.iss_tables.specs.Steps.{head_row, IsMadeOf}
-use Rattle.iss_tables.specs.Calls.{IsOurs}
 use Rattle.iss_sql_keeper.specs.Decoded.{archived_in, head_in, posting_in, seq_of}
 use Rattle.iss_sql_keeper.specs.Numbered.{in_order}
-use Rattle.iss_sql_keeper.specs.Shown.{Stays, told_in, told_of}
+use Rattle.iss_sql_keeper.specs.Shown.{Stays, told_in}
 use Rattle.iss_sql_keeper.specs.Opened.{IsHeldIn, IsHeldBy, HoldsOn}
 use Rattle.iss_sql_keeper.proofs.ShownLemmas.{clean_from}
 

@@ -1,10 +1,9 @@
 -- What a column holds, as it is read.
-use Rattle.std.proofs.Common.{◌≡◌, ℕ, pos, List, Option, Some, None, IfSome, refl, sym, ap, ◌∙◌}
+use Rattle.std.proofs.Common.{◌≡◌, ℕ, pos, List, Option, Some, None, IfSome, sym, ap, ◌∙◌}
 use Rattle.sqlite.specs.declared.types.Value.{Value}
 use Rattle.sqlite.specs.declared.types.Value.TheVariants.{Null, Int, Text}
 use Rattle.sqlite.specs.Order.{Row, column}
 use Rattle.iss_model.specs.declared.currency.Currency.{Currency}
-use Rattle.iss_model.specs.declared.account.Account.{Account}
 use Rattle.iss_model.specs.Numbers.{currency_numbered}
 use Rattle.iss_archive.specs.declared.post.PostRow.{PostRow}
 use Rattle.iss_sql_keeper.specs.Decoded.{number_in, text_in, currency_in, account_in, posting_shown}

@@ -1,5 +1,5 @@
 -- A list in the order of numbers.
-use Rattle.std.specs.Prelude.{ℕ, ◌≤◌, List, [], ◌∷◌, nat_le, if◌then◌else◌}
+use Rattle.std.specs.Prelude.{ℕ, List, [], ◌∷◌, nat_le, if◌then◌else◌}
 
 module _ {X : Type 0} (number : X → ℕ) where
   -- the list with this one before the first that has no lower number

@@ -1,5 +1,5 @@
 -- A stop leaves what is told.
-use Rattle.std.proofs.Common.{◌≡◌, Bool, true, false, ◌&&◌, cond, Option, Some, None, IfSome, IsTrue, refl, ap, ◌∙◌}
+use Rattle.std.proofs.Common.{◌≡◌, Bool, true, false, ◌&&◌, cond, Option, Some, None, IfSome, refl, ap, ◌∙◌}
 use Rattle.sqlite.specs.State.{State}
 use Rattle.iss_archive.specs.Archived.{Archived}
 use Rattle.iss_tables.specs.Calls.{LeavesCommit}

@@ -1,4 +1,4 @@
-use Rattle.std.proofs.Common.{◌≡◌, rules}
+use Rattle.std.proofs.Common.{rules}
 use Rattle.sqlite.specs.Held.{state}
 use Rattle.iss_tables.specs.Calls.{IsOurs}
 use Rattle.iss_sql_keeper.proofs.ShownLemmas.{on_ok, on_err}

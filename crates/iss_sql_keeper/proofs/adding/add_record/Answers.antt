@@ -1,5 +1,5 @@
 use Rattle.std.proofs.Common.{refl}
-use Rattle.iss_sql_keeper.proofs.ShownLemmas.{failed_same, told_failed}
+use Rattle.iss_sql_keeper.proofs.ShownLemmas.{told_failed}
 use Rattle.iss_sql_keeper.proofs.AddingLemmas.{kept_added, told_added, left_added}
 use Rattle.iss_sql_keeper.proofs.adding.add_record.Goals as goal
 

@@ -1,4 +1,3 @@
-use Rattle.std.proofs.Common.{◌≡◌}
 use Rattle.iss_sql_keeper.proofs.ShownLemmas.{head_told}
 use Rattle.iss_sql_keeper.proofs.asking.head_in.Goals as goal
 

@@ -1,7 +1,7 @@
-use Rattle.std.proofs.Common.{◌≡◌, rules}
+use Rattle.std.proofs.Common.{rules}
 use Rattle.sqlite.specs.Held.{state}
 use Rattle.iss_tables.specs.Calls.{IsOurs}
-use Rattle.iss_sql_keeper.proofs.ShownLemmas.{asked_stays, asked_leaves, above_held, if_ok}
+use Rattle.iss_sql_keeper.proofs.ShownLemmas.{asked_stays, above_held, if_ok}
 use Rattle.iss_sql_keeper.proofs.asking.is_none_above.Goals as goal
 
 pub returns-clause-stays : goal.returns-clause-stays

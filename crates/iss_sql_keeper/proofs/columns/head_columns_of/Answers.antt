@@ -1,5 +1,3 @@
-use Rattle.std.proofs.Common.{Option, Some, None, IfSome, ◌≡◌}
-use Rattle.iss_archive.specs.declared.post.Head.{Head}
 use Rattle.iss_sql_keeper.proofs.GivenLemmas.{head_given}
 use Rattle.iss_sql_keeper.proofs.columns.head_columns_of.Goals as goal
 

@@ -1,5 +1,3 @@
-use Rattle.std.proofs.Common.{◌≡◌, false, rules}
-use Rattle.sqlite.specs.Held.{state}
 use Rattle.iss_sql_keeper.proofs.ShownLemmas.{opened_kept, stays_then}
 use Rattle.iss_sql_keeper.proofs.opening.is_archive.Goals as goal
 

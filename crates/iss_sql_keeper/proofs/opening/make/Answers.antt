@@ -1,4 +1,3 @@
-use Rattle.std.proofs.Common.{◌≡◌}
 use Rattle.iss_sql_keeper.proofs.ShownLemmas.{on_ok}
 use Rattle.iss_sql_keeper.proofs.opening.make.Goals as goal
 
