@@ -8,8 +8,8 @@ use iss_model::{CallId, Currency, Input, Outcome, Token};
 use std::alloc::{AllocError, Global};
 use std::test::Fail;
 
-/// How many lists are drawn in the gate.
-const LISTS: u64 = 2;
+/// How many lists each test draws.
+const LISTS: u64 = 5000;
 
 /// Numbers that look random, by shifts.
 #[derive(Drop)]
@@ -181,18 +181,41 @@ fn few(count: usize) -> u32 {
     u32::try_from(count).unwrap_or(u32::MAX)
 }
 
-#[test]
-fn both_sides_meet_whatever_is_drawn(rt: HostRuntime) -> Result<(), Fail> {
-    let alloc = rt.alloc();
+/// Whether both sides meet in each list that is drawn from this number on, which isn't 0.
+fn lists_meet(alloc: Global, seed: u64) -> Result<bool, Fail> {
     let names = [
         Token::new(b"c1").ok_or("no token")?,
         Token::new(b"m1").ok_or("no token")?,
     ];
-    let mut draw = Draw {
-        state: 88_172_645_463_325_252,
-    };
+    let mut draw = Draw { state: seed };
     for _ in 0..LISTS {
-        assert!(rt; all_meet(alloc, &mut draw, &names)?);
+        if !all_meet(alloc, &mut draw, &names)? {
+            return Ok(false);
+        }
     }
+    Ok(true)
+}
+
+#[test]
+fn both_sides_meet_in_the_first_lists(rt: HostRuntime) -> Result<(), Fail> {
+    assert!(rt; lists_meet(rt.alloc(), 88_172_645_463_325_252)?);
+    Ok(())
+}
+
+#[test]
+fn both_sides_meet_in_the_second_lists(rt: HostRuntime) -> Result<(), Fail> {
+    assert!(rt; lists_meet(rt.alloc(), 1)?);
+    Ok(())
+}
+
+#[test]
+fn both_sides_meet_in_the_third_lists(rt: HostRuntime) -> Result<(), Fail> {
+    assert!(rt; lists_meet(rt.alloc(), 2)?);
+    Ok(())
+}
+
+#[test]
+fn both_sides_meet_in_the_fourth_lists(rt: HostRuntime) -> Result<(), Fail> {
+    assert!(rt; lists_meet(rt.alloc(), 3)?);
     Ok(())
 }
