@@ -14,7 +14,7 @@ mod post;
 mod source;
 mod stating;
 
-pub use archiving::{ArchiveFault, postings};
+pub use archiving::{ArchiveFault, keep_up, postings};
 pub use keeper::Keeper;
 pub use law::{one_record_more_adds_its_own, postings_come_to_the_balance};
 pub use map_keeper::MapKeeper;

@@ -52,8 +52,8 @@ is_told c found r body j is spelled judges is_not_new =
 
 pub takes_up : (before after : CoreNow) (found : Option Record) (r made : Record) (j : Judged) (body : List ℕ) (now count : ℕ) (t : Taken) → found ≡ Some r → IfSome found (λ x. IsSpellingOf x body)
     → count ≡ before.state.count → count < MOST_RECORDS → now ≡ before.state.now → now ≤ r.at
-    → j ≡ judge core_keeper before.state r.input r.at → j ≡ judged.New made → Steps before after r t.entries.items → t.number ≡ after.state.count → t.at ≡ r.at → TakesUp before after body t
-takes_up before after found r made j body now count t is spelled counted room told late judges new steps number at =
+    → j ≡ judge core_keeper before.state r.input r.at → j ≡ judged.New made → Steps before after r t.entries.items → t.number ≡ after.state.count → t.accepted ≡ r → TakesUp before after body t
+takes_up before after found r made j body now count t is spelled counted room told late judges new steps number accepted =
     record {
       r = r;
       spelled = spelled_so found r body is spelled;
@@ -61,6 +61,6 @@ takes_up before after found r made j body now count t is spelled counted room to
       room = omega (arith, counted, room);
       core = λ i. record { instance = steps.kept i; state = steps.state i };
       number = number ∙ ap (λ (s : CoreState). s.count) steps.state ∙ step_count before.state r;
-      at = at;
+      accepted = accepted;
       entries = steps.entries;
     }

@@ -11,7 +11,7 @@ use Rattle.iss_opening.specs.declared.fault.OpenFault.TheVariants.{Disk, NotForm
 use Rattle.iss_opening.specs.declared.taking.Taken.{Taken}
 use Rattle.iss_opening.specs.Reading.{core_after, IsNotNext}
 
--- A record was taken up: this body spells it, it is the next one, and there may be one more. This is its number with its stamp and the
+-- A record was taken up: this body spells it, it is the next one, and there may be one more. This is the record with its number and the
 -- entries that it makes.
 pub record TakesUp (before after : CoreNow) (body : List ℕ) (t : Taken) : Type 0 where
   pub r : Record
@@ -20,7 +20,7 @@ pub record TakesUp (before after : CoreNow) (body : List ℕ) (t : Taken) : Type
   pub room : before.state.count < MOST_RECORDS
   pub core : after ≡ core_after before (r ∷ [])
   pub number : t.number ≡ before.state.count + 1
-  pub at : t.at ≡ r.at
+  pub accepted : t.accepted ≡ r
   pub entries : t.entries.items ≡ (step core_keeper before.state r).entries
 
 -- the body spells a record that isn't taken up

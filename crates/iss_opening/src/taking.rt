@@ -7,14 +7,16 @@ use crate::OpenFault;
 use iss_codec::decode;
 use iss_core::Core;
 use iss_model::limits::MOST_RECORDS;
-use iss_model::{Entry, Judged};
+use iss_model::{Entry, Judged, Record};
 use std::alloc::Global;
 
-/// A record that was read and taken up: its number, from 1, its stamp, and the entries that it makes.
+/// A record that was read and taken up.
 #[derive(Drop)]
 pub struct Taken {
+    /// The record's number, from 1.
     pub number: u32,
-    pub at: u64,
+    pub accepted: Record,
+    /// What the record makes.
     pub entries: Vec<Entry>,
 }
 
@@ -48,7 +50,7 @@ pub(crate) fn take_in(
         next,
         Taken {
             number,
-            at: accepted.at,
+            accepted,
             entries,
         },
     ))
