@@ -1,5 +1,5 @@
 -- Reading a device record by record: what was read stands on it, and each record is next on those before it.
-use Rattle.std.proofs.Common.{◌≡◌, ℕ, ◌+◌, ◌<◌, inr, List, [], ◌∷◌, ◌++◌, length, refl, sym, ap, subst, ◌∙◌, arith}
+use Rattle.std.proofs.Common.{◌≡◌, ℕ, suc, ◌+◌, ◌<◌, inr, List, [], ◌∷◌, ◌++◌, length, refl, sym, ap, subst, ◌∙◌, arith}
 use Rattle.std.specs.Prelude.{slice_index}
 use Rattle.std.proofs.lemmas.List.Folds.{list_all-append}
 use Rattle.iss_edge.specs.World.{World}
@@ -14,6 +14,7 @@ use Rattle.iss_halves.specs.Standing.{gate_after, end_of}
 use Rattle.iss_halves.specs.Finding.{found_region}
 use Rattle.iss_halves.specs.Opening.{IsFound}
 use Rattle.iss_halves.proofs.Openings.{found_may_begin}
+use Rattle.iss_model.specs.declared.input.Record.{Record}
 use Rattle.iss_model.specs.declared.limits.TheConstants.{MOST_RECORDS}
 use Rattle.iss_model.specs.texts.Spelling.{is_record}
 use Rattle.iss_core.specs.Values.{CoreNow, IsNext}
@@ -24,8 +25,9 @@ use Rattle.iss_standing.proofs.NextRecords.{one_more}
 use Rattle.iss_opening.specs.declared.fault.OpenFault.TheVariants as open_fault
 use Rattle.iss_opening.specs.Values.{StoreNow}
 use Rattle.iss_opening.specs.Reading.{core_after, ReadsOn, BodyAfter, IsNotNext}
-use Rattle.iss_opening.specs.Progress.{SyncedAlone, HasRead, HasReadAll}
-use Rattle.iss_opening.specs.Going.{NextIsRead, AllIsRead, FaultIsFound}
+use Rattle.iss_opening.specs.declared.taking.Taken.{Taken}
+use Rattle.iss_opening.specs.Progress.{SyncedAlone, HasRead, HasReadThese, HasReadAll, ReadsNext}
+use Rattle.iss_opening.specs.Going.{NextIsRead, NoneIsRead, TheseAreRead, AllIsRead, FaultIsFound}
 use Rattle.iss_opening.proofs.Afters.{after_more, after_count, next_more}
 use Rattle.iss_opening.proofs.Images.{loaded_few}
 
@@ -96,6 +98,24 @@ one_more_read before after t a b c read one same =
           (subst (λ (p : Place). ReadsOn before.layout read.image start (rs ++ r ∷ []) p a.device) (sym one.place) on);
       core = one.takes.core ∙ ap (λ (c : CoreNow). core_after c (r ∷ [])) read.core ∙ sym (after_more start rs r);
       point = one.point ∙ read.point;
+    }
+
+pub none_read : NoneIsRead
+none_read s a b read whole =
+    let none : read.rs ≡ [] = no_length read.rs (omega (arith, after_count read.start read.rs, ap (λ (c : CoreNow). c.state.count) read.core, read.point, whole)) in
+    record { read = read; from = sym (read.core ∙ ap (λ (rs : List Record). core_after read.start rs) none); these = none }
+  where
+    no_length : (rs : List Record) → length rs ≡ 0 → rs ≡ []
+    no_length [] e = refl
+    no_length (r ∷ rs) e = absurd cc
+
+pub these_read : TheseAreRead
+unfolding one_more_read
+these_read start rs before after t a b c these one same =
+    record {
+      read = one_more_read before after t a b c these.read one same;
+      from = these.from;
+      these = λ i. these.these i ++ sym one.takes.accepted i ∷ [];
     }
 
 -- ---- how reading ends

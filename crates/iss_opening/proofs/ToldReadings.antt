@@ -33,7 +33,7 @@ told_fault before fault x y z read next =
 
 -- ---- what was read has changed nothing
 
-still : (s : StoreNow) (a b c : World) → HasRead s a b → Same b c → HasRead s a c
+abbrev pub still : (s : StoreNow) (a b c : World) → HasRead s a b → Same b c → HasRead s a c
 still s a b c read same =
     record {
       synced = record {

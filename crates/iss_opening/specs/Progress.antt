@@ -31,6 +31,12 @@ pub record HasRead (s : StoreNow) (a b : World) : Type 0 where
   pub core : s.core ≡ core_after start rs
   pub point : s.point ≡ start.state.count
 
+-- the same, and these are the records, on the core that the image makes
+pub record HasReadThese (start : CoreNow) (rs : List Record) (s : StoreNow) (a b : World) : Type 0 where
+  pub read : HasRead s a b
+  pub from : read.start ≡ start
+  pub these : read.rs ≡ rs
+
 -- and this gate isn't open: no record is left
 pub record HasReadAll (s : StoreNow) (a b : World) : Type 0 where
   pub read : HasRead s a b

@@ -10,7 +10,7 @@ ghost use Rattle.iss_snapshot.specs.Loaded.{IsLoaded};
 ghost use Rattle.iss_opening.specs.Numbers.{AreNumbered, IsNumbered};
 ghost use Rattle.iss_opening.specs.OneJournal.{OneJournalIsHistory, OneJournalStands, OneJournalBadHistory};
 ghost use Rattle.iss_opening.specs.Opening.{GoodDevicesOpen, OpenedDevicesHaveNoFault, OpenedStoresStand};
-ghost use Rattle.iss_opening.specs.Going.{NextIsRead, AllIsRead, FaultIsFound, ReadingIsGood, ClosingIsGood, ClosingOpens};
+ghost use Rattle.iss_opening.specs.Going.{NextIsRead, NoneIsRead, TheseAreRead, AllIsRead, FaultIsFound, ReadingIsGood, ClosingIsGood, ClosingOpens};
 
 /// If a device stands for records, or if it was opened, opening it fails only for the disk or for memory.
 pub fn good_devices_open()
@@ -34,6 +34,8 @@ pub fn one_journal_has_a_history()
 /// closing the end gate opens the device.
 pub fn readings_go_on()
     ensures next { NextIsRead }
+    ensures none { NoneIsRead }
+    ensures these { TheseAreRead }
     ensures all { AllIsRead }
     ensures fault { FaultIsFound }
     ensures good { ReadingIsGood }

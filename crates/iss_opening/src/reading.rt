@@ -55,6 +55,7 @@ impl Reading {
         ensures begins { Told (Begins result) (E.told edge.old) (E.told edge.new) }
         ensures moments { OnErr result (Told OpensGood (E.told edge.old) (E.told edge.new)) }
         ensures refused { OnRefused result (Told ReadsAlone (E.told edge.old) (E.told edge.new)) }
+        ensures first { IfOk result (λ reading. reading.point ≡ reading.core.state.count) }
         ensures size { IfOk result (λ reading. reading.layout.size ≡ E.extent edge.new) }
         ensures cause { OpenCause (E.faults edge.old) (E.faults edge.new) result }
         ensures heard { Told HearsNothing (E.heard edge.old) (E.heard edge.new) }
