@@ -2,11 +2,12 @@
 program := crates/iss_cli/out/iss_cli
 first := crates/iss_cli/stdin
 gateway := crates/issuer_gateway/out/issuer_gateway
+follow := crates/issuer_follow/out/issuer_follow
 sources := crates.txt HANDLES \
     $(shell find crates -name out -prune -o \( -name '*.rt' -o -name '*.antt' \) -print)
 
 .DEFAULT_GOAL := issuer
-.PHONY: help issuer gateway run crate check try test checks mutants bench twins map doctor
+.PHONY: help issuer gateway follow run crate check try test checks mutants bench twins map doctor
 
 help: ## lists these targets
 	@awk -F ':.*## ' '/^[a-z]+:.*## / { printf "make %-8s %s\n", $$1, $$2 }' Makefile
@@ -30,6 +31,15 @@ build/issuer_gateway: $(gateway)
 $(gateway): $(sources)
 	cd crates/issuer_gateway && rm -f out/issuer_gateway && { rt run || [ -x out/issuer_gateway ]; }
 	touch $(gateway)
+
+follow: build/issuer_follow ## proves the program of a second device likewise, and leaves it at build/issuer_follow
+
+build/issuer_follow: $(follow)
+	install -D -m 755 $(follow) build/issuer_follow
+
+$(follow): $(sources)
+	cd crates/issuer_follow && rm -f out/issuer_follow && { rt run || [ -x out/issuer_follow ]; }
+	touch $(follow)
 
 run: ## shows the replies to the first example: at once if the proved program is up to date, else, in minutes, by a build that is not proved
 	@if $(MAKE) -qs $(program); then \

@@ -1,0 +1,11 @@
+//! A second device, as a program: its words, and what it does over two outsides, one for each device.
+//!
+//! It may cite `iss_edge`, `iss_amount`, `iss_journal`, `iss_halves` and the crates named `iss_follow_`.
+//! It must not cite the real outside.
+#![tactic(auto)]
+
+mod following;
+mod words;
+
+pub use following::follow;
+pub use words::{Command, Usage, command_of};

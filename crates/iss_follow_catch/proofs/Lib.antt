@@ -1,0 +1,6 @@
+pub mod PlansMade
+pub mod Commits
+pub mod Pasts
+pub mod Moments
+pub mod Beside
+pub mod Exits

@@ -1,0 +1,4 @@
+pub mod Rooms
+pub mod Committing
+pub mod Behind
+pub mod Catching
