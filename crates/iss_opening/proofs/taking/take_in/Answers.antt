@@ -17,6 +17,6 @@ step-requires-clause-next c =
 pub returns : goal.returns
 returns c = record {
   takes = takes_up c.args.core c.in_ok-next.next c.in_ok-accepted.field-0 c.in-Some.accepted c.in-New.field-0 c.in_ok-judged.judged c.args.body.now c.now.result c.count.result
-      (record { number = c.count-number.result; at = c.in-Some.accepted.at; entries = c.in_ok-next.entries }) c.in-Some.is c.in_ok-accepted.ensures.found c.count.ensures.value c.if-count-ge-MOST_RECORDS.false c.now.ensures.value c.if-accepted-now.false
+      (record { number = c.count-number.result; accepted = c.in-Some.accepted; entries = c.in_ok-next.entries }) c.in-Some.is c.in_ok-accepted.ensures.found c.count.ensures.value c.if-count-ge-MOST_RECORDS.false c.now.ensures.value c.if-accepted-now.false
       c.in_ok-judged.ensures.judged c.in-New.is c.in_ok-next.ensures.stepped c.count-number.ensures.value refl;
 }
