@@ -17,7 +17,7 @@ use Rattle.iss_opening.specs.Values.{StoreNow}
 use Rattle.iss_opening.specs.Reading.{core_after}
 use Rattle.iss_opening.specs.Opening.{Opens, OpensGood}
 use Rattle.iss_opening.specs.Progress.{HasRead, HasReadThese, ReadsNext}
-use Rattle.iss_opening.proofs.Openings.{closing_opens, reading_good}
+use Rattle.iss_opening.proofs.Openings.{closing_good, closing_opens, reading_good}
 use Rattle.iss_opening.proofs.Readings.{none_read, these_read}
 use Rattle.iss_opening.proofs.Telling.{told_both}
 use Rattle.iss_opening.proofs.ToldReadings.{read_good, still, told_fault}
@@ -61,19 +61,19 @@ cut_at (z ∷ rs) (x ∷ first) rest r e =
       | inr cut ↦ inr (cut.0, λ i. head i ∷ cut.1 i)
     ]
 
-known_next : (start : CoreNow) (rs : List Record) (r : Record) (core other : CoreNow) (met now : Bool) (later kept : List Record) → core ≡ core_after start (rs ++ r ∷ []) → KnowsMet start rs other met later → Passes met later r core other now kept
+known_next : (start : CoreNow) (rs : List Record) (r : Record) (core other : CoreNow) (met now : Bool) (later kept : List Record) → is_record r ≡ true → core ≡ core_after start (rs ++ r ∷ []) → KnowsMet start rs other met later → Passes met later r core other now kept
     → KnowsMet start (rs ++ r ∷ []) other now kept
-known_next start rs r core other true now later kept is known passes =
+known_next start rs r core other true now later kept form is known passes =
     subst (λ (b : Bool). KnowsMet start (rs ++ r ∷ []) other b kept) (sym passes.0)
     (record {
       first = known.first;
       cut =
           ap (λ (l : List Record). l ++ r ∷ []) known.cut
           ∙ append_assoc known.first later (r ∷ [])
-          ∙ ap (λ (l : List Record). known.first ++ l) (sym passes.1);
+          ∙ ap (λ (l : List Record). known.first ++ l) (sym (passes.1 form));
       same = known.same;
     })
-known_next start rs r core other false true later kept is known passes =
+known_next start rs r core other false true later kept form is known passes =
     record {
       first = rs ++ r ∷ [];
       cut =
@@ -81,7 +81,7 @@ known_next start rs r core other false true later kept is known passes =
           ∙ ap (λ (l : List Record). (rs ++ r ∷ []) ++ l) (sym (passes.0 ∙ known.0));
       same = subst (λ (c : CoreNow). HoldSame c other) is (passes.1.0 refl);
     }
-known_next start rs r core other false false later kept is known passes = (passes.0 ∙ known.0, not_met)
+known_next start rs r core other false false later kept form is known passes = (passes.0 ∙ known.0, not_met)
   where
     not_met : HasNotMet start (rs ++ r ∷ []) other
     not_met first rest cut same =
@@ -105,7 +105,7 @@ next_beside before after t other met now later kept a b c passes beside one same
       rs = beside.rs ++ t.accepted ∷ [];
       read = read;
       known =
-          known_next beside.start beside.rs t.accepted after.core other met now later kept (core_of_these beside.start (beside.rs ++ t.accepted ∷ []) after a c read) beside.known passes;
+          known_next beside.start beside.rs t.accepted after.core other met now later kept (subst (λ (r : Record). is_record r ≡ true) (sym one.takes.accepted) one.takes.spelled.0) (core_of_these beside.start (beside.rs ++ t.accepted ∷ []) after a c read) beside.known passes;
     }
 
 pub told_next : (before after : StoreNow) (t : Taken) (found : Option Taken) (other : CoreNow) (met now : Bool) (later kept : List Record) (x y z : Option World) → found ≡ Some t
@@ -177,6 +177,10 @@ pub told_ahead : (s t : StoreNow) (other : CoreNow) (met : Bool) (later : List R
 told_ahead s t other met later x y z is all good going =
     told_then (AllBeside s other met later) (λ b c. ClosesGood s.place b c × ClosesGoing s.place b c) (OpensAhead t other met later) x y z
     (λ a b c r p. ahead_of s t other met later a b c is r p.0 p.1) all (told_both (ClosesGood s.place) (ClosesGoing s.place) y z good going)
+
+pub told_closes : (s : StoreNow) (other : CoreNow) (met : Bool) (later : List Record) (x y z : Option World) → Told (AllBeside s other met later) x y → Told (ClosesGood s.place) y z → Told OpensGood x z
+told_closes s other met later x y z all closes =
+    told_then (AllBeside s other met later) (ClosesGood s.place) OpensGood x y z (λ a b c r p. closing_good s a b c (record { read = r.beside.read.read; shut = r.shut }) p) all closes
 
 pub told_whole : (s : StoreNow) (other : CoreNow) (met : Bool) (later : List Record) (x y : Option World) → Told (AllBeside s other met later) x y → Told OpensGood x y
 told_whole s other met later x y all =

@@ -1,10 +1,11 @@
 -- Records that are committed one after the other: what then stands, and how the run goes on.
 use Rattle.std.proofs.Common.{◌≡◌, ◌<◌, ◌≤◌, ℕ, suc, ◌+◌, Bool, true, false, List, [], ◌∷◌, ◌++◌, length, take, drop, inl, inr, refl, sym, ap, subst, ◌∙◌, arith, append_assoc, append-nil}
-use Rattle.std.specs.Prelude.{Option, Some, None, Result, Ok, Err, if◌then◌else◌}
-use Rattle.std.proofs.lemmas.List.{take-append-drop}
+use Rattle.std.specs.Prelude.{◌≢◌, get_or, Option, Some, None, Result, Ok, Err, IsErrOf, if◌then◌else◌}
+use Rattle.std.proofs.lemmas.Grind.{take_at_read}
+use Rattle.std.proofs.lemmas.List.{take-append-drop, drop_all}
 use Rattle.std.proofs.lemmas.Option.{same_Some}
-use Rattle.iss_edge.specs.World.{World, Told}
-use Rattle.iss_edge.proofs.Tolds.{told_map, told_then, told_self}
+use Rattle.iss_edge.specs.World.{World, Told, Faults, Later}
+use Rattle.iss_edge.proofs.Tolds.{told_map, told_then, later_self, later_then, rose_later}
 use Rattle.iss_halves.specs.Forms.{Form, Seat}
 use Rattle.iss_model.specs.declared.input.Record.{Record}
 use Rattle.iss_model.specs.rules.Histories.{Follows, IsLegalAfter, history_of, nothing_yet}
@@ -15,14 +16,13 @@ use Rattle.iss_standing.proofs.Goings.{goes_then, goes_then_part, goes_part, not
 use Rattle.iss_opening.specs.Values.{StoreNow, form_under, seat_under, room_of}
 use Rattle.iss_opening.specs.Standing.{StandsFor}
 use Rattle.iss_opening.proofs.Spelled.{follows_at}
-use Rattle.iss_opening.proofs.Telling.{told_both}
 use Rattle.iss_store.specs.Values.{Plan, DurableNow}
 use Rattle.iss_store.specs.Planning.{store_for, turns_for, store_turned}
 use Rattle.iss_store.specs.Committing.{Commits, CommitsOnBook, Keeps, KeepsPart}
 use Rattle.iss_follow_runs.specs.declared.stop.Stop.{Stop}
 use Rattle.iss_follow_runs.specs.declared.stop.Stop.TheVariants as stop
 use Rattle.iss_follow_catch.specs.Rooms.{room_on, room_behind, FitsNext, FitsAll, FitsUpTo}
-use Rattle.iss_follow_catch.specs.Committing.{TakesUp, Lasts, LastsPart, LastsInPart, StopsAt, CommitsAll, CommitsUpTo, CommitRun}
+use Rattle.iss_follow_catch.specs.Committing.{TakesUp, Lasts, LastsPart, LastsInPart, StopsAt, WhereUnplanned, CommitsAll, CommitsUpTo, CommitRun, DiskCaused, EndsAsCommit}
 
 -- ---- rooms, one record after the other
 
@@ -209,3 +209,83 @@ module _ (s t : StoreNow) (done records rest : List Record) (r : Record) (a b : 
   stopped stop.Memory stops = tt
   stopped stop.Device stops = stops
   stopped stop.Output stops = stops
+
+-- ---- what an edge tells of it
+
+module _ (s t : StoreNow) (done records rest : List Record) (r : Record) (x y z : Option World) (cut : records ≡ done ++ r ∷ rest) (takes : TakesUp s t done) (lasts : Told (Lasts s t done) x y) (part : Told (LastsInPart t (r ∷ [])) y z) where
+  pub told_stopped : (why : Stop) → StopsAt t r why → WhereUnplanned {T = Unit {0}} (Err why) (z ≡ y) → Told (CommitRun {A = Unit {0}} s records (Err why)) x z
+  told_stopped stop.NoRoom stops same =
+      subst (λ (w : Option World). Told (CommitRun {A = Unit {0}} s records (Err stop.NoRoom)) x w) (sym same)
+      (told_map (Lasts s t done) (CommitRun {A = Unit {0}} s records (Err stop.NoRoom)) x y (λ a b l. stopped s t done records rest r a b cut takes l stop.NoRoom stops) lasts)
+  told_stopped stop.NotBehind stops same =
+      subst (λ (w : Option World). Told (CommitRun {A = Unit {0}} s records (Err stop.NotBehind)) x w) (sym same)
+      (told_map (Lasts s t done) (CommitRun {A = Unit {0}} s records (Err stop.NotBehind)) x y (λ a b l. stopped s t done records rest r a b cut takes l stop.NotBehind stops) lasts)
+  told_stopped stop.Disk stops same =
+      told_then (Lasts s t done) (LastsInPart t (r ∷ [])) (CommitRun {A = Unit {0}} s records (Err stop.Disk)) x y z (λ a b c l p. tt) lasts part
+  told_stopped stop.Memory stops same =
+      told_then (Lasts s t done) (LastsInPart t (r ∷ [])) (CommitRun {A = Unit {0}} s records (Err stop.Memory)) x y z (λ a b c l p. tt) lasts part
+  told_stopped stop.Device stops same = absurd stops
+  told_stopped stop.Output stops same = absurd stops
+
+  pub told_part : Told (LastsInPart s records) x z
+  told_part =
+      told_then (Lasts s t done) (LastsInPart t (r ∷ [])) (LastsInPart s records) x y z (λ a b c l p. part_more s t done records rest r a b c cut takes l p) lasts part
+
+pub ends_so : (t : StoreNow) (r : Record) (why : Stop) → StopsAt t r why → EndsAsCommit {A = Unit {0}} (Err why)
+ends_so t r stop.NoRoom stops = tt
+ends_so t r stop.NotBehind stops = tt
+ends_so t r stop.Disk stops = tt
+ends_so t r stop.Memory stops = tt
+ends_so t r stop.Device stops = stops
+ends_so t r stop.Output stops = stops
+
+module _ (s t u : StoreNow) (done : List Record) (r : Record) (x y z : Option World) (takes : TakesUp s t done) (lasts : Told (Lasts s t done) x y) where
+  pub told_more : Told (Lasts t u (r ∷ [])) y z → Told (Lasts s u (done ++ r ∷ [])) x z
+  told_more next =
+      told_then (Lasts s t done) (Lasts t u (r ∷ [])) (Lasts s u (done ++ r ∷ [])) x y z (λ a b c l n. lasts_more s t u done r takes a b c l n) lasts next
+
+module _ (s t : StoreNow) (done records : List Record) (x y : Option World) (all : done ≡ records) (takes : TakesUp s t done) (lasts : Told (Lasts s t done) x y) where
+  pub told_whole : Told (CommitRun {A = Unit {0}} s records (Ok tt)) x y
+  told_whole =
+      subst (λ (l : List Record). Told (CommitRun {A = Unit {0}} s l (Ok tt)) x y) all
+      (told_map (Lasts s t done) (CommitRun {A = Unit {0}} s done (Ok tt)) x y (λ a b l. all_committed s t done a b takes l) lasts)
+
+  pub told_whole_part : Told (LastsInPart s records) x y
+  told_whole_part =
+      told_map (Lasts s t done) (LastsInPart s records) x y (λ a b l. part_all s t done records [] a b (sym all ∙ sym (append-nil done)) l) lasts
+
+-- a stop that doesn't blame the disk needs no cause
+pub alone_caused : {T : Type 0} (before : Faults) (why : Stop) → why ≢ stop.Disk → DiskCaused {T = T} before before (Err why)
+alone_caused before why alone = record { later = later_self before; disk = λ e. (let same : why ≡ stop.Disk = cc in absurd (alone same)) }
+
+-- the cause of a later call is one of both
+pub caused_later : {T : Type 0} (before between now : Faults) (result : Result T Stop) → Later before between → DiskCaused between now result → DiskCaused before now result
+caused_later before between now result first cause =
+    record {
+      later = later_then before between now first cause.later;
+      disk = λ e. rose_later before.disk between.disk now.disk now.disk first.disk cause.later.disk (omega arith) (cause.disk e);
+    }
+
+-- what isn't planned leaves all as it was, and so what is told
+pub unplanned_so : {T U : Type 0} (why : Stop) (P Q : Type 0) → (P → Q) → WhereUnplanned {T = T} (Err why) P → WhereUnplanned {T = U} (Err why) Q
+unplanned_so stop.NoRoom P Q f p = f p
+unplanned_so stop.NotBehind P Q f p = f p
+unplanned_so stop.Disk P Q f p = tt
+unplanned_so stop.Memory P Q f p = tt
+unplanned_so stop.Device P Q f p = tt
+unplanned_so stop.Output P Q f p = tt
+
+-- ---- the records of a loop
+
+pub taken_next : (rs : List Record) (n : ℕ) (r : Record) → n < length rs → r ≡ get_or rs n r → take (n + 1) rs ≡ take n rs ++ r ∷ []
+taken_next rs n r within here = (take_at_read rs n r within).1 ∙ ap (λ (x : Record). take n rs ++ x ∷ []) (sym here)
+
+pub cut_next : (rs : List Record) (n : ℕ) (r : Record) → n < length rs → r ≡ get_or rs n r → rs ≡ take n rs ++ r ∷ drop (n + 1) rs
+cut_next rs n r within here =
+    sym (take-append-drop (n + 1) rs)
+    ∙ ap (λ (l : List Record). l ++ drop (n + 1) rs) (taken_next rs n r within here)
+    ∙ append_assoc (take n rs) (r ∷ []) (drop (n + 1) rs)
+
+pub all_taken : (rs : List Record) (n : ℕ) → length rs ≤ n → take n rs ≡ rs
+all_taken rs n whole =
+    sym (append-nil (take n rs)) ∙ ap (λ (l : List Record). take n rs ++ l) (sym (drop_all n rs whole)) ∙ take-append-drop n rs

@@ -1,6 +1,6 @@
 -- What planning a record comes to on a store: its plan, or why it gets none.
 use Rattle.std.proofs.Common.{◌≡◌, ◌⊎◌, inl, inr, ◌<◌, ◌≤◌, ℕ, max, Bool, true, false, cond, List, [], ◌∷◌, ◌++◌, length, refl, sym, ap, subst, ◌∙◌, arith}
-use Rattle.std.specs.Prelude.{Some, Result, Ok, Err, nat_le, nat_lt}
+use Rattle.std.specs.Prelude.{◌≢◌, Some, Result, Ok, Err, IfOk, IfErr, nat_le, nat_lt}
 use Rattle.std.proofs.lemmas.Bool.Decides.{nat_tests}
 use Rattle.iss_model.specs.declared.decision.Answer.{Answer}
 use Rattle.iss_model.specs.declared.decision.Answer.TheVariants as answer
@@ -23,6 +23,7 @@ use Rattle.iss_store.specs.declared.fault.PlanFault.{PlanFault}
 use Rattle.iss_store.specs.declared.fault.PlanFault.TheVariants as plan_fault
 use Rattle.iss_store.specs.Values.{Plan}
 use Rattle.iss_store.specs.Planning.{judged_plan, judged_as, made_on, judged_within, judged_at, most_free_at, Plans, PlansOnBook}
+use Rattle.iss_follow_runs.specs.declared.stop.Stop.{Stop}
 use Rattle.iss_follow_runs.specs.declared.stop.Stop.TheVariants as stop
 use Rattle.iss_follow_catch.specs.Rooms.{room_on, FitsNext}
 use Rattle.iss_follow_catch.specs.Committing.{stop_told, StopsAt, IsPlanItself}
@@ -162,3 +163,45 @@ module _ (s : StoreNow) (r : Record) where
   told_stops (answer.Already number) book = other_stops (answer.Already number) refl book
   told_stops (answer.UnknownNotice number) book = other_stops (answer.UnknownNotice number) refl book
   told_stops answer.Idle book = other_stops answer.Idle refl book
+
+-- ---- what a plan itself comes to, if it isn't one of a clock
+
+pub itself_is : (s : StoreNow) (r : Record) (p : Plan) (result : Result Plan Stop) (now : ℕ) → now ≡ s.core.state.now → (r.at < now → ⊥) → Plans (judged_at s r.input r.at) (Ok p) → IsPlanItself p result
+    → IfOk result (λ q. q.accepted ≡ r)
+itself_is s r p (Ok q) now told late plans its = planned_itself s r p q now told late plans its
+itself_is s r p (Err why) now told late plans its = tt
+
+pub itself_fits : (s : StoreNow) (r : Record) (p : Plan) (result : Result Plan Stop) (now : ℕ) → now ≡ s.core.state.now → (r.at < now → ⊥) → Plans (judged_at s r.input r.at) (Ok p) → PlansOnBook s r.input r.at (Ok p)
+    → IsPlanItself p result → IfOk result (λ q. (rs : List Record) → StandsFor s rs → FitsNext (room_on s) rs r)
+itself_fits s r p (Ok q) now told late plans book its = planned_fits s r p q r.input r.at now refl refl told late plans book its
+itself_fits s r p (Err why) now told late plans book its = tt
+
+pub itself_stops : (s : StoreNow) (r : Record) (p : Plan) (result : Result Plan Stop) → PlansOnBook s r.input r.at (Ok p) → IsPlanItself p result → IfErr result (StopsAt s r)
+itself_stops s r p (Ok q) book its = tt
+itself_stops s r p (Err stop.NotBehind) book its = clock_stops s r p its book
+itself_stops s r p (Err stop.NoRoom) book its = absurd its
+itself_stops s r p (Err stop.Disk) book its = absurd its
+itself_stops s r p (Err stop.Memory) book its = absurd its
+itself_stops s r p (Err stop.Device) book its = absurd its
+itself_stops s r p (Err stop.Output) book its = absurd its
+
+pub itself_alone : (p : Plan) (result : Result Plan Stop) → IsPlanItself p result → IfErr result (λ why. why ≢ stop.Disk)
+itself_alone p (Ok q) its = tt
+itself_alone p (Err stop.NotBehind) its = λ e. cc
+itself_alone p (Err stop.NoRoom) its = absurd its
+itself_alone p (Err stop.Disk) its = absurd its
+itself_alone p (Err stop.Memory) its = absurd its
+itself_alone p (Err stop.Device) its = absurd its
+itself_alone p (Err stop.Output) its = absurd its
+
+-- no answer blames the disk
+pub told_alone : (a : Answer) → stop_told a ≢ stop.Disk
+told_alone (answer.Full free need) = λ e. cc
+told_alone answer.Spent = λ e. cc
+told_alone (answer.Repeat token reply) = λ e. cc
+told_alone (answer.Conflict token number) = λ e. cc
+told_alone (answer.Late call how) = λ e. cc
+told_alone (answer.UnknownCall call) = λ e. cc
+told_alone (answer.Already number) = λ e. cc
+told_alone (answer.UnknownNotice number) = λ e. cc
+told_alone answer.Idle = λ e. cc

@@ -3,6 +3,7 @@ use Rattle.std.specs.Prelude.{◌≡◌, ◌≤◌, ◌↔◌, ℕ, Bool, true, 
 use Rattle.iss_edge.specs.World.{World}
 use Rattle.iss_halves.specs.Forms.{Form, Seat}
 use Rattle.iss_model.specs.declared.input.Record.{Record}
+use Rattle.iss_model.specs.texts.Spelling.{is_record}
 use Rattle.iss_core.specs.Values.{CoreNow}
 use Rattle.iss_standing.specs.Standing.{image_after, DeviceStandsFor}
 use Rattle.iss_opening.specs.Values.{StoreNow}
@@ -32,9 +33,9 @@ abbrev pub KnowsMet : CoreNow → List Record → CoreNow → Bool → List Reco
 KnowsMet start rs other true later = HasMet start rs other later
 KnowsMet start rs other false later = (later ≡ []) × HasNotMet start rs other
 
--- A record was passed: it was kept as a later one if they had met, else it is known whether they have met after it.
+-- A record in form was passed: it was kept as a later one if they had met, else it is known whether they have met after it.
 abbrev pub Passes : Bool → List Record → Record → CoreNow → CoreNow → Bool → List Record → Type 0
-Passes true later r core other now kept = (now ≡ true) × (kept ≡ later ++ r ∷ [])
+Passes true later r core other now kept = (now ≡ true) × (IsTrue (is_record r) → kept ≡ later ++ r ∷ [])
 Passes false later r core other now kept = (kept ≡ later) × (IsTrue now ↔ HoldSame core other)
 
 -- records of a device were read up to this gate, and it is known whether the core has met the other one

@@ -1,11 +1,12 @@
 //! Opening a device beside another one, which may be behind it.
-ghost use Rattle.std.specs.Prelude.{◌≡◌, ◌↔◌, IfOk, IfErr, OnErr, IsTrue};
+ghost use Rattle.std.specs.Prelude.{◌≡◌, ◌↔◌, ◌++◌, ◌∷◌, [], Some, IfOk, IfErr, IfSome, OnOk, IsTrue};
 ghost use Rattle.std.specs.List.{list_all};
-ghost use Rattle.iss_edge.specs.World.{Told, Stays};
+ghost use Rattle.iss_edge.specs.World.{Told};
 ghost use Rattle.iss_model.specs.texts.Spelling.{is_record};
 ghost use Rattle.iss_opening.specs.Opening.{Opens, OpensGood, OpenCause};
 ghost use Rattle.iss_follow_catch.specs.Behind.{HoldSame, Passes, AllBeside, OpensAhead};
 
+use iss_codec::{decode, encode};
 use iss_core::Core;
 use iss_edge::Edge;
 use iss_model::Record;
@@ -90,17 +91,45 @@ fn passes(
     alloc: Global,
     met: bool,
     later: &mut Vec<Record>,
-    record: Record,
+    accepted: Record,
     core: &Core,
     other: &Core,
 ) -> Result<bool, AllocError>
-    ensures { IfOk result (λ now. Passes met later.old.items record core.now other.now now later.new.items) }
+    requires { IsTrue (list_all is_record later.old.items) }
+    ensures passes { IfOk result (λ now. Passes met later.old.items accepted core.now other.now now later.new.items) }
+    ensures spelled { IfOk result (λ _. IsTrue (list_all is_record later.new.items)) }
 {
     if met {
-        later.push(record)?;
+        keep_in_form(alloc, later, &accepted)?;
         return Ok(true);
     }
     hold_same(alloc, core, other)
+}
+
+/// Keeps a record in form, as each is that was read.
+fn keep_in_form(
+    alloc: Global,
+    later: &mut Vec<Record>,
+    accepted: &Record,
+) -> Result<(), AllocError>
+    requires { IsTrue (list_all is_record later.old.items) }
+    ensures kept { IsTrue (is_record accepted.now) → OnOk result (later.new.items ≡ later.old.items ++ accepted.now ∷ []) }
+    ensures spelled { OnOk result (IsTrue (list_all is_record later.new.items)) }
+{
+    let Some(own) = in_form(alloc, accepted)? else {
+        return Ok(());
+    };
+    later.push(own)?;
+    Ok(())
+}
+
+/// The record, if it is in form. What an outside doesn't tell of its device has to be looked at, since a plan needs a record in form.
+fn in_form(alloc: Global, accepted: &Record) -> Result<Option<Record>, AllocError>
+    ensures whole { IsTrue (is_record accepted.now) → IfOk result (λ found. found ≡ Some accepted.now) }
+    ensures spelled { IfOk result (λ found. IfSome found (λ r. IsTrue (is_record r))) }
+{
+    let bytes = encode(alloc, accepted)?;
+    decode(alloc, bytes.as_slice())
 }
 
 /// Whether two cores hold the same, of one instance.

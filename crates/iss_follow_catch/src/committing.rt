@@ -1,10 +1,11 @@
 //! Committing records, one after the other.
-ghost use Rattle.std.specs.Prelude.{◌≡◌, [], ◌∷◌, List, IfOk, IfErr, IsTrue};
+ghost use Rattle.std.specs.Prelude.{◌≡◌, ◌≢◌, [], ◌∷◌, List, IfOk, IfErr, IsTrue};
 ghost use Rattle.std.specs.List.{list_all};
 ghost use Rattle.iss_edge.specs.World.{Told, Stays};
 ghost use Rattle.iss_model.specs.declared.input.Record.{Record};
 ghost use Rattle.iss_model.specs.texts.Spelling.{is_record};
 ghost use Rattle.iss_opening.specs.Standing.{StandsFor};
+ghost use Rattle.iss_follow_runs.specs.declared.stop.Stop.TheVariants.{Disk};
 ghost use Rattle.iss_store.specs.Planning.{IsPlanOf};
 ghost use Rattle.iss_follow_catch.specs.Rooms.{room_on, FitsNext};
 ghost use Rattle.iss_follow_catch.specs.Committing.{stop_told, IsPlanItself, TakesUp, Lasts, LastsInPart, StopsAt, WhereUnplanned, CommitRun, DiskCaused, EndsAsCommit};
@@ -57,12 +58,15 @@ fn commit_one<T: Edge>(
     match store.commit(alloc, to, planned) {
         Ok((next, _)) => Ok(next),
         Err(StoreFault::OutOfMemory) => Err(Stop::Memory),
-        Err(StoreFault::Disk | StoreFault::Output) => Err(Stop::Disk),
+        Err(StoreFault::Disk) => Err(Stop::Disk),
+        // A commit emits nothing.
+        Err(StoreFault::Output) => unreachable!(),
     }
 }
 
 /// The plan of a record. `NotBehind` if it doesn't follow on what stands, and `NoRoom` if it doesn't fit, or if there are as many
 /// records as there may be.
+#[tactic(auto, using(crate::proofs::PlansMade::itself_alone, crate::proofs::PlansMade::told_alone))]
 fn plan_of(alloc: Global, store: &mut Store, record: &Record) -> Result<Planned, Stop>
     requires { IsTrue (is_record record.now) }
     ensures kept { store.new ≡ store.old }
@@ -70,6 +74,7 @@ fn plan_of(alloc: Global, store: &mut Store, record: &Record) -> Result<Planned,
     ensures is { IfOk result (λ planned. planned.accepted ≡ record.now) }
     ensures fits { IfOk result (λ planned. (rs : List Record) → StandsFor store.old rs → FitsNext (room_on store.old) rs record.now) }
     ensures stops { IfErr result (StopsAt store.old record.now) }
+    ensures alone { IfErr result (λ why. why ≢ Disk) }
 {
     if record.at < store.core().now() {
         return Err(Stop::NotBehind);
