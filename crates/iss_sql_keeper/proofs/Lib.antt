@@ -6,3 +6,4 @@ pub mod AddedLemmas
 pub mod ShownLemmas
 pub mod AddingLemmas
 pub mod OpenedLemmas
+pub mod RefusedLemmas

@@ -134,7 +134,7 @@ opened_kept mid new head (Ok b) mode held s found = λ yes. record {
       subst (λ (h : Option Head). list_all (is_at_most (pos (posts_in h))) (new.committed.trees 1) ≡ true) top ((found yes).held clean is_open);
 }
 
-head_known : (c : Option HeadColumns) (o : Option Row) → IsHeadRow c o → option_map head_of c ≡ option_map head_in o
+pub head_known : (c : Option HeadColumns) (o : Option Row) → IsHeadRow c o → option_map head_of c ≡ option_map head_in o
 head_known None None h = refl
 head_known None (Some r) h = absurd h
 head_known (Some c) None h = absurd h

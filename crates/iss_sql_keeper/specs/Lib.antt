@@ -4,3 +4,4 @@ pub mod Given
 pub mod Shown
 pub mod Standing
 pub mod Opened
+pub mod Refused

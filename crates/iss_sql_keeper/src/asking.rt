@@ -1,17 +1,20 @@
 //! Asking a database that is an archive.
 
-ghost use Rattle.std.specs.Prelude.{◌≡◌, pos, true, false, [], ◌∷◌, map, option_map, IfOk, IsTrue};
+ghost use Rattle.std.specs.Prelude.{◌≡◌, pos, true, false, [], ◌∷◌, map, option_map, IfErr, IfOk, IsSomeAnd, IsTrue};
 ghost use Rattle.std.specs.List.{list_all};
 ghost use Rattle.sqlite.specs.declared.types.Value.TheVariants.{Int, Text};
 ghost use Rattle.iss_model.specs.Currencies.{iso_number};
 ghost use Rattle.sqlite.specs.Held.{state};
 ghost use Rattle.iss_archive.specs.Archived.{is_of_user};
 ghost use Rattle.iss_archive.specs.Statable as statable;
-ghost use Rattle.iss_tables.specs.Calls.{HasNoneAbove};
+ghost use Rattle.sqlite.specs.State.{HasCleanDisk};
+ghost use Rattle.iss_tables.specs.Calls.{HasNoneAbove, IsOurs, ReadsHead};
+ghost use Rattle.iss_tables.specs.Causes.{DoneAsking};
 ghost use Rattle.iss_tables.specs.Queries.{ShowsPostsOf};
 ghost use Rattle.iss_tables.specs.Rows.{asked_for};
 ghost use Rattle.iss_tables.specs.Steps.{IsHeadRow, head_row};
 ghost use Rattle.iss_sql_keeper.specs.Decoded.{archived_in, head_of, posting_shown};
+ghost use Rattle.iss_sql_keeper.specs.Refused.{AsksUnlessUnasked, HoldsStoredHead, IsOddHead, NamesFailure, RefusesUnasked};
 ghost use Rattle.iss_sql_keeper.specs.Shown.{Holds, HoldsPosts, IsKept, LeavesNothingNew, LeavesSame, Stays, Tells, TellsHead, TellsPosts, TellsSame};
 
 use crate::reading::{self, postings_of};
@@ -24,9 +27,10 @@ use iss_tables::{
 use sqlite::{Alter, Connection, Error, ErrorCode, Row};
 use std::alloc::Global;
 
-/// What a call on the database came to, with its error as a keeper's.
+/// What a call on the database came to, with its error as a keeper's: want of memory, or a failure.
 pub(crate) fn told<T>(outcome: Result<T, Error>) -> Result<T, KeepFault>
-    ensures { Tells outcome result }
+    ensures same { Tells outcome result }
+    ensures named { NamesFailure outcome result }
 {
     match outcome {
         Ok(value) => Ok(value),
@@ -42,6 +46,9 @@ fn ask_head<S: Alter>(conn: &mut Connection<S>) -> Result<Option<HeadColumns>, K
     ensures stays { Stays (state S.Store conn.old) (state S.Store conn.new) }
     ensures left { LeavesNothingNew (state S.Store conn.old) (state S.Store conn.new) }
     ensures read { IfOk result (λ head. Holds (state S.Store conn.new) (λ trees. IsHeadRow head (head_row (trees 0)))) }
+    ensures was { ReadsHead result (state S.Store conn.old) (state S.Store conn.new) }
+    ensures done { DoneAsking result (state S.Store conn.old) (state S.Store conn.new) }
+    ensures cause { HoldsStoredHead (state S.Store conn.old).now.trees → AsksUnlessUnasked result (state S.Store conn.old) (state S.Store conn.new) }
 {
     if !is_ours(conn.schema()) {
         return Err(KeepFault::Failed);
@@ -52,7 +59,8 @@ fn ask_head<S: Alter>(conn: &mut Connection<S>) -> Result<Option<HeadColumns>, K
 
 /// The head of its columns, if there is one. It fails if a column holds something else.
 fn read(columns: &Option<HeadColumns>) -> Result<Option<Head>, KeepFault>
-    ensures { IfOk result (λ head. head ≡ option_map head_of columns.now) }
+    ensures value { IfOk result (λ head. head ≡ option_map head_of columns.now) }
+    ensures odd { IfErr result (λ _. IsSomeAnd columns.now IsOddHead) }
 {
     let Some(columns) = columns else {
         return Ok(None);
@@ -69,6 +77,9 @@ pub(crate) fn head_in<S: Alter>(conn: &mut Connection<S>) -> Result<Option<Head>
     ensures stays { Stays (state S.Store conn.old) (state S.Store conn.new) }
     ensures left { LeavesNothingNew (state S.Store conn.old) (state S.Store conn.new) }
     ensures read { IfOk result (λ head. Holds (state S.Store conn.new) (λ trees. head ≡ (archived_in trees).head)) }
+    ensures was { HasCleanDisk (state S.Store conn.new) → IsOurs (state S.Store conn.old) → IfOk result (λ head. head ≡ (archived_in (state S.Store conn.old).now.trees).head) }
+    ensures done { DoneAsking result (state S.Store conn.old) (state S.Store conn.new) }
+    ensures cause { HoldsStoredHead (state S.Store conn.old).now.trees → AsksUnlessUnasked result (state S.Store conn.old) (state S.Store conn.new) }
 {
     let columns = ask_head(conn)?;
     read(&columns)
@@ -83,6 +94,8 @@ pub(crate) fn is_none_above<S: Alter>(
     requires { conn.old.in_transaction ≡ false }
     ensures stays { Stays (state S.Store conn.old) (state S.Store conn.new) }
     ensures found { IfOk result (λ none. IsTrue none → Holds (state S.Store conn.new) (HasNoneAbove most.now)) }
+    ensures untaken { HasCleanDisk (state S.Store conn.new) → IsOurs (state S.Store conn.old) → HasNoneAbove most.now (state S.Store conn.old).now.trees → RefusesUnasked result (state S.Store conn.old) (state S.Store conn.new) }
+    ensures cause { AsksUnlessUnasked result (state S.Store conn.old) (state S.Store conn.new) }
 {
     if !is_ours(conn.schema()) {
         return Err(KeepFault::Failed);

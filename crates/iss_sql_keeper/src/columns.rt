@@ -1,6 +1,6 @@
 //! The archive's head and rows as columns.
 
-ghost use Rattle.std.specs.Prelude.{◌≡◌, pos, map, option_map, IfSome, IfOk};
+ghost use Rattle.std.specs.Prelude.{◌≡◌, ◌≤◌, ◌^◌, pos, map, option_map, None, IfSome, IfOk};
 ghost use Rattle.iss_sql_keeper.specs.Decoded.{head_of};
 ghost use Rattle.iss_sql_keeper.specs.Given as spec;
 
@@ -61,7 +61,8 @@ fn columns_of(row: &PostRow) -> Option<PostColumns<'_>>
 
 /// The number with a sign, or `None` if it doesn't fit.
 pub(crate) fn signed(number: u64) -> Option<i64>
-    ensures { IfSome result (λ n. n ≡ pos number) }
+    ensures value { IfSome result (λ n. n ≡ pos number) }
+    ensures great { result ≡ None → 2 ^ 63 ≤ number }
 {
     match i64::try_from(number) {
         Ok(n) => Some(n),

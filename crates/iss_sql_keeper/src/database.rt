@@ -1,10 +1,11 @@
 //! A database that is an archive.
 
-ghost use Rattle.std.specs.Prelude.{◌≡◌, IfOk, IfSome, IsTrue};
+ghost use Rattle.std.specs.Prelude.{◌≡◌, IfErr, IfOk, IfSome, IsTrue};
 ghost use Rattle.sqlite.specs.Held.{state};
 ghost use Rattle.iss_archive.specs.Archived.{Follows};
 ghost use Rattle.iss_archive.specs.Statable.{is_statable};
 ghost use Rattle.iss_sql_keeper.specs.Opened.{HoldsOn};
+ghost use Rattle.iss_sql_keeper.specs.Refused.{WhyRefused};
 ghost use Rattle.iss_sql_keeper.specs.Shown.{LeavesSame, MayLeaveAdded, TellsAdded, TellsHead, TellsPosts, TellsSame, told_in};
 
 use crate::adding::add_to;
@@ -43,7 +44,8 @@ impl<S: Alter + Drop> Database<S> {
         alloc: Global,
         mut conn: Connection<S>,
     ) -> Result<Result<Database<S>, Connection<S>>, AllocError>
-        ensures { IfOk result (λ opened. IfOk opened (λ d. HoldsOn (state S.Store conn) (state S.Store d))) }
+        ensures held { IfOk result (λ opened. IfOk opened (λ d. HoldsOn (state S.Store conn) (state S.Store d))) }
+        ensures cause { IfOk result (λ opened. IfErr opened (λ d. WhyRefused (state S.Store conn) (state S.Store d))) }
     {
         match prepare(&mut conn) {
             Ok(true) => Ok(Ok(Database { conn, alloc })),

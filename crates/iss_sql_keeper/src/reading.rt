@@ -1,10 +1,11 @@
 //! The archive's head and rows from the rows of an answer.
 
-ghost use Rattle.std.specs.Prelude.{◌≡◌, ◌<◌, ◌++◌, ◌∷◌, [], map, true, Some, IfSome, IfOk, OnOk};
+ghost use Rattle.std.specs.Prelude.{◌≡◌, ◌≢◌, ◌<◌, ◌≤◌, ◌^◌, ◌++◌, ◌∷◌, ℕ, pos, [], map, true, None, Some, IfSome, IfOk, OnOk};
 ghost use Rattle.std.specs.List.{list_all};
 ghost use Rattle.sqlite.specs.Order.{column};
 ghost use Rattle.iss_archive.specs.Archived.{is_of_user};
 ghost use Rattle.iss_sql_keeper.specs.Decoded as spec;
+ghost use Rattle.iss_sql_keeper.specs.Refused.{IsOddHead};
 
 use iss_archive::{Head, KeepFault, PostRow, is_of_user};
 use iss_model::{Account, Currency, Token};
@@ -137,7 +138,8 @@ pub(crate) fn postings_of(
 
 /// The number without a sign, or `None` if it is negative.
 fn natural(number: i64) -> Option<u64>
-    ensures { IfSome result (λ n. n ≡ spec.natural number) }
+    ensures value { IfSome result (λ n. n ≡ spec.natural number) }
+    ensures negative { result ≡ None → (n : ℕ) → number ≢ pos n }
 {
     match u64::try_from(number) {
         Ok(n) => Some(n),
@@ -147,7 +149,8 @@ fn natural(number: i64) -> Option<u64>
 
 /// The same, for a count of records.
 fn small_natural(number: i64) -> Option<u32>
-    ensures { IfSome result (λ n. n ≡ spec.natural number) }
+    ensures value { IfSome result (λ n. n ≡ spec.natural number) }
+    ensures other { result ≡ None → (n : ℕ) → number ≡ pos n → 2 ^ 32 ≤ n }
 {
     match u32::try_from(number) {
         Ok(n) => Some(n),
@@ -157,7 +160,8 @@ fn small_natural(number: i64) -> Option<u32>
 
 /// The head of its columns, or `None` if one holds something else.
 pub(crate) fn head_of(columns: &HeadColumns) -> Option<Head>
-    ensures { IfSome result (λ head. head ≡ spec.head_of columns.now) }
+    ensures value { IfSome result (λ head. head ≡ spec.head_of columns.now) }
+    ensures odd { result ≡ None → IsOddHead columns.now }
 {
     Some(Head {
         instance: natural(columns.instance)?,

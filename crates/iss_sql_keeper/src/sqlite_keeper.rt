@@ -5,6 +5,7 @@ ghost use Rattle.std.specs.Option.{option_or};
 ghost use Rattle.sqlite.specs.Held.{state};
 ghost use Rattle.iss_archive.specs.Archived.{Counts};
 ghost use Rattle.iss_sql_keeper.specs.Opened.{IsHeldBy};
+ghost use Rattle.iss_sql_keeper.specs.Refused.{IsRefusedFor};
 
 use crate::database::Database;
 use iss_archive::{Head, KeepFault, Keeper, PostRow};
@@ -27,9 +28,11 @@ pub struct SqliteKeeper<S: Alter + Drop> {
 impl<S: Alter + Drop> SqliteKeeper<S> {
     /// A keeper over this connection, or over none if the database can't be opened. The two tables are made if they aren't there.
     ///
-    /// What it tells is what the tables held, and that nothing is archived in a table that it made.
+    /// What it tells is what the tables held, and that nothing is archived in a table that it made. While the disk returns what
+    /// was written, a database is refused only if its tables are others, or hold no archive, or it couldn't be asked.
     pub fn new(alloc: Global, conn: Option<Connection<S>>) -> Result<SqliteKeeper<S>, AllocError>
         ensures faults { IfOk result (λ k. ⟦<SqliteKeeper<S> as Keeper>⟧.faults k ≡ 0) }
+        ensures cause { IfOk result (λ k. IsRefusedFor (state S.Store) conn k.database k.refused) }
         ensures told { IfOk result (λ k. IfSome (⟦<SqliteKeeper<S> as Keeper>⟧.told k) (IsHeldBy (state S.Store) conn)) }
     {
         let Some(conn) = conn else {

@@ -151,6 +151,27 @@ pub none_above_by : (most : ℤ) (table rows : List Row) → ShowsTable above_qu
     → list_all (is_at_most most) table ≡ true
 none_above_by most table rows s e = none_passes most table (none_shown most _ s.ordered (no_output s.ordered (sym e ∙ s.shown)) s.same)
 
+none_from : (os : List Output) → IsPermutation [] os → os ≡ []
+none_from [] p = refl
+none_from (o ∷ os) p = absurd (omega (arith, length_permutation [] (o ∷ os) p))
+
+-- if nothing is above, nothing passes, so nothing is shown
+nothing_passes : (most : ℤ) (rows : List Row) → list_all (is_at_most most) rows ≡ true → filter (passes above_query.filter (Int most ∷ [])) rows ≡ []
+nothing_passes most [] h = refl
+nothing_passes most (r ∷ rows) h = by (nothing_passes most rows) (is_gt (value_cmp (column r 0) (Int most))) refl
+  where
+    by : (list_all (is_at_most most) rows ≡ true → filter (passes above_query.filter (Int most ∷ [])) rows ≡ []) → (b : Bool) → is_gt (value_cmp (column r 0) (Int most)) ≡ b
+        → filter (passes above_query.filter (Int most ∷ [])) (r ∷ rows) ≡ []
+    by later true above = absurd (let no = rw above at h in cc)
+    by later false above = let rest : list_all (is_at_most most) rows ≡ true = rw above at h in rw (above_passes most r ∙ above) (later rest)
+
+pub none_shown_by : (most : ℤ) (table rows : List Row) → ShowsTable above_query (filter (passes above_query.filter (Int most ∷ [])) table) (Int most ∷ []) rows
+    → list_all (is_at_most most) table ≡ true → rows ≡ []
+none_shown_by most table rows s all =
+    let same : IsPermutation (map (λ r. output above_query ((Int most ∷ []) ∷ r ∷ [])) []) s.ordered =
+    subst (λ (kept : List Row). IsPermutation (map (λ r. output above_query ((Int most ∷ []) ∷ r ∷ [])) kept) s.ordered) (nothing_passes most table all) s.same in
+    s.shown ∙ ap (map (λ (o : Output). o.1)) (none_from s.ordered same)
+
 -- ---- a table that holds no head
 
 pub no_head : (row : Row) → HasNoNumber row 0 ⊎ (HasNoNumber row 1 ⊎ HasNoNumber row 2) → IsNoHead row
@@ -191,10 +212,6 @@ number_cause row at (Err e) named kind = elim named [
 same_filter : (rows : List Row) → kept_of rows ≡ filter (has_rowid (pos 1)) rows
 same_filter [] = refl
 same_filter (r ∷ rows) = rw (head_passes r) (ap (λ (l : List Row). cond (has_rowid (pos 1) r) (r ∷ l) l) (same_filter rows))
-
-none_from : (os : List Output) → IsPermutation [] os → os ≡ []
-none_from [] p = refl
-none_from (o ∷ os) p = absurd (omega (arith, length_permutation [] (o ∷ os) p))
 
 -- the rows that were shown are no head, so the table holds none
 pub head_unread : (table shown : List Row) → ShowsTable head_query (kept_of table) [] shown → AreNoHead shown → ¬ AreHead (filter (has_rowid (pos 1)) table)

@@ -1,18 +1,18 @@
 -- What making the tables does.
-use Rattle.std.proofs.Common.{◌≡◌, ◌⊎◌, inl, inr, ℕ, [], false, None, Ok, Err, Result, OnOk, IsTrue, sym, ap, subst, ◌∙◌}
+use Rattle.std.proofs.Common.{◌≡◌, ◌⊎◌, inl, inr, ℕ, ◌≤◌, arith, [], false, None, Ok, Err, Result, OnOk, IsTrue, sym, ap, subst, ◌∙◌}
 use Rattle.sqlite.specs.Command.TheVariants.{CreateTable, Nothing}
 use Rattle.sqlite.specs.Change.{created, next_tree}
 use Rattle.sqlite_catalog.specs.Change.{KeepsRows}
 use Rattle.sqlite.specs.Does.{Tally, lacks_sequence}
 use Rattle.sqlite.specs.Effect.{Database}
-use Rattle.sqlite.specs.State.{State, Writes, Executes, IsUnchanged}
+use Rattle.sqlite.specs.State.{State, Shows, Writes, Executes, IsUnchanged}
 use Rattle.sqlite.proofs.Callers.{runs_as}
 use Rattle.iss_tables.specs.Tables.{head_table, post_table_at, no_schema, head_schema, archive_schema}
 use Rattle.iss_tables.specs.Texts.{make_head, make_post}
 use Rattle.iss_tables.proofs.Compiled.{head_made, post_made, head_creates, post_creates, head_stands, head_stands_alone, post_stands, texts_are, plain, head_whole}
 use Rattle.sqlite.specs.declared.error.Error.{Error}
 use Rattle.iss_tables.specs.Steps.{HasHeadAlone, AddsPosts, IsMadeOf}
-use Rattle.iss_tables.specs.Causes.{CanBeOurs}
+use Rattle.iss_tables.specs.Causes.{CanBeOurs, IsDone}
 use Rattle.iss_tables.proofs.PostLemmas.{went, same_value}
 
 -- the table of the head is made, with no row
@@ -78,11 +78,24 @@ pub head_alone_by : (old new : State) (r : Result ℕ Error) → Executes make_h
 head_alone_by old new (Ok count) h = λ has. (head_is_alone old new count has h).0.now_is
 head_alone_by old new (Err e) h = tt
 
-pub head_opened_by : (old new : State) (r : Result ℕ Error) → CanBeOurs old → Executes make_head [] old new r → OnOk r (IsTrue new.is_open)
-head_opened_by old new (Ok count) (inl has) h = (head_is_there old new count has h).0.is_open
-head_opened_by old new (Ok count) (inr (inl has)) h = (runs_as make_head [] old new no_schema has CreateTable head_creates plain.0 count h).shown.is_open
-head_opened_by old new (Ok count) (inr (inr has)) h = (head_is_alone old new count has h).0.is_open
-head_opened_by old new (Err e) can h = tt
+-- a call after which the connection shows something in its mode was done
+done_shown : (old new : State) (now committed : Database) → Shows old new now committed old.in_transaction → old.faults ≤ new.faults → new.step_limit ≡ old.step_limit → IsDone old new
+done_shown old new now committed s counted limit = record { is_open = s.is_open; counted = counted; limit = limit; mode = s.mode }
+
+pub head_done_by : (old new : State) (r : Result ℕ Error) → CanBeOurs old → Executes make_head [] old new r → old.faults ≤ new.faults → new.step_limit ≡ old.step_limit → OnOk r (IsDone old new)
+head_done_by old new (Ok count) (inl has) h counted limit = done_shown old new _ _ (head_is_there old new count has h).0 counted limit
+head_done_by old new (Ok count) (inr (inl has)) h counted limit = done_shown old new _ _ (runs_as make_head [] old new no_schema has CreateTable head_creates plain.0 count h).shown counted limit
+head_done_by old new (Ok count) (inr (inr has)) h counted limit = done_shown old new _ _ (head_is_alone old new count has h).0 counted limit
+head_done_by old new (Err e) can h counted limit = tt
+
+pub post_done_by : (old new : State) (r : Result ℕ Error) → (old.now.schema ≡ archive_schema) ⊎ (old.now.schema ≡ head_schema) → Executes make_post [] old new r → old.faults ≤ new.faults
+    → new.step_limit ≡ old.step_limit → OnOk r (IsDone old new)
+post_done_by old new (Ok count) (inl has) h counted limit = done_shown old new _ _ (post_is_there old new count has h).0 counted limit
+post_done_by old new (Ok count) (inr has) h counted limit = done_shown old new _ _ (runs_as make_post [] old new head_schema has CreateTable post_creates plain.1 count h).shown counted limit
+post_done_by old new (Err e) can h counted limit = tt
+
+pub done_then : (a b c : State) → IsDone a b → IsDone b c → IsDone a c
+done_then a b c p q = record { is_open = q.is_open; counted = omega (arith, p.counted, q.counted); limit = q.limit ∙ p.limit; mode = q.mode ∙ p.mode }
 
 -- what making both comes to
 pub both_made : (old mid new : Database) → (old.schema ≡ no_schema → HasHeadAlone mid) → (old.schema ≡ head_schema → mid ≡ old) → (old.schema ≡ archive_schema → mid ≡ old)

@@ -1,6 +1,6 @@
 -- Why a call failed, from the state before it to the state after.
 -- It is said while the disk is honest, of a connection whose tables are the archive's or can become it.
-use Rattle.std.specs.Prelude.{◌≡◌, ◌⊎◌, pos, true, false, List, [], ◌∷◌, map, filter, Result, IfErr, OnOk, IsSome, IsTrue}
+use Rattle.std.specs.Prelude.{◌≡◌, ◌⊎◌, ◌≤◌, ℤ, pos, Bool, true, false, List, [], ◌∷◌, map, filter, Result, IfOk, IfErr, OnOk, IsSome, IsTrue}
 use Rattle.std.specs.List.{list_all}
 use Rattle.sqlite_disk.specs.Disk.{MoreFaults}
 use Rattle.sqlite_trees.specs.View.{IsStorableRow, is_int}
@@ -19,7 +19,7 @@ use Rattle.iss_tables.specs.declared.adding.HeadColumns.{HeadColumns}
 use Rattle.iss_tables.specs.Tables.{no_schema, head_schema, head_table, post_table}
 use Rattle.iss_tables.specs.Rows.{Columns, columns_of, stored}
 use Rattle.iss_tables.specs.Steps.{AreInHead, row_of_head}
-use Rattle.iss_tables.specs.Calls.{IsOurs}
+use Rattle.iss_tables.specs.Calls.{IsOurs, HasNoneAbove}
 
 -- a call on the disk failed, found damage or found no room, and was counted
 pub record FailsByDisk (old new : State) (e : Error) : Type 0 where
@@ -72,9 +72,35 @@ abbrev pub MakePostCause : {T : Type 0} → Result T Error → State → State �
 MakePostCause result old new =
     HasCleanDisk new → IsOurs old ⊎ (old.now.schema ≡ head_schema) → IfErr result (FailsByStore old new)
 
--- the connection is open, if a table was made or left
-abbrev pub OpensMade : {T : Type 0} → Result T Error → State → State → Type 0
-OpensMade result old new = HasCleanDisk new → CanBeOurs old → OnOk result (IsTrue new.is_open)
+-- a call that was done: the connection is open, no failure was forgotten, and its limit and its mode are as they were
+pub record IsDone (old new : State) : Type 0 where
+  pub is_open : IsTrue new.is_open
+  pub counted : old.faults ≤ new.faults
+  pub limit : new.step_limit ≡ old.step_limit
+  pub mode : new.in_transaction ≡ old.in_transaction
+
+-- so is the making of tables
+abbrev pub DoneMaking : {T : Type 0} → Result T Error → State → State → Type 0
+DoneMaking result old new = HasCleanDisk new → CanBeOurs old → OnOk result (IsDone old new)
+
+-- the same of the table of the postings, which is made after that of the head
+abbrev pub DoneMakingPost : {T : Type 0} → Result T Error → State → State → Type 0
+DoneMakingPost result old new =
+    HasCleanDisk new → IsOurs old ⊎ (old.now.schema ≡ head_schema) → OnOk result (IsDone old new)
+
+-- a question that was answered changed nothing
+pub record IsAnswered (old new : State) : Type 0 where
+  pub done : IsDone old new
+  pub now : new.now ≡ old.now
+
+-- so is a question to our tables
+abbrev pub DoneAsking : {T E : Type 0} → Result T E → State → State → Type 0
+DoneAsking result old new = HasCleanDisk new → IsOurs old → OnOk result (IsAnswered old new)
+
+-- if it wasn't found that no posting has a number above this, some posting has one
+abbrev pub FindsSomeAbove : {E : Type 0} → ℤ → Result Bool E → State → State → Type 0
+FindsSomeAbove most result old new =
+    HasCleanDisk new → IfOk result (λ none. IsOurs old → none ≡ false → ¬ HasNoneAbove most old.now.trees)
 
 -- a row of the postings is too long to be stored
 abbrev pub IsTooLong : Row → Type 0

@@ -8,7 +8,7 @@ ghost use Rattle.sqlite.specs.Held.{state};
 ghost use Rattle.sqlite.specs.declared.types.Value.TheVariants.{Int};
 ghost use Rattle.sqlite.specs.Order.{column};
 ghost use Rattle.iss_tables.specs.Steps.{AreHeadColumns, AreNoHead, HasNoNumber, IsNoHead, IsOneHead};
-ghost use Rattle.iss_tables.specs.Causes.{AskCause, HeadCause};
+ghost use Rattle.iss_tables.specs.Causes.{AskCause, DoneAsking, FindsSomeAbove, HeadCause};
 ghost use Rattle.iss_tables.specs.Calls.{KeepsOpen, KeepsOurs, SurvivesOurs, ShowsHead, ShowsPosts, ShowsAbove, ReadsHead, FindsNoneAbove};
 
 use crate::HeadColumns;
@@ -17,6 +17,7 @@ use sqlite::{Alter, Connection, Error, ErrorCode, Row, params};
 /// The rows of the answer for the head.
 fn head_rows<S: Alter>(conn: &mut Connection<S>) -> Result<Vec<Row>, Error>
     ensures shown { ShowsHead result (state S.Store conn.old) (state S.Store conn.new) }
+    ensures done { DoneAsking result (state S.Store conn.old) (state S.Store conn.new) }
     ensures cause { AskCause result (state S.Store conn.old) (state S.Store conn.new) }
     ensures opened { KeepsOpen (state S.Store conn.old) (state S.Store conn.new) }
     ensures clean { HasCleanDisk (state S.Store conn.new) → HasCleanDisk (state S.Store conn.old) }
@@ -54,6 +55,7 @@ fn head_columns(row: &Row) -> Result<HeadColumns, Error>
 /// The head, or `None` if none was set.
 pub fn read_head<S: Alter>(conn: &mut Connection<S>) -> Result<Option<HeadColumns>, Error>
     ensures read { ReadsHead result (state S.Store conn.old) (state S.Store conn.new) }
+    ensures done { DoneAsking result (state S.Store conn.old) (state S.Store conn.new) }
     ensures cause { HeadCause result (state S.Store conn.old) (state S.Store conn.new) }
     ensures opened { KeepsOpen (state S.Store conn.old) (state S.Store conn.new) }
     ensures clean { HasCleanDisk (state S.Store conn.new) → HasCleanDisk (state S.Store conn.old) }
@@ -109,6 +111,7 @@ pub fn read_posts<S: Alter>(
 /// The numbers of the postings that are above this.
 fn numbers_above<S: Alter>(conn: &mut Connection<S>, most: &i64) -> Result<Vec<Row>, Error>
     ensures shown { ShowsAbove most.now result (state S.Store conn.old) (state S.Store conn.new) }
+    ensures done { DoneAsking result (state S.Store conn.old) (state S.Store conn.new) }
     ensures cause { AskCause result (state S.Store conn.old) (state S.Store conn.new) }
     ensures opened { KeepsOpen (state S.Store conn.old) (state S.Store conn.new) }
     ensures clean { HasCleanDisk (state S.Store conn.new) → HasCleanDisk (state S.Store conn.old) }
@@ -122,6 +125,8 @@ fn numbers_above<S: Alter>(conn: &mut Connection<S>, most: &i64) -> Result<Vec<R
 /// Whether no posting has a number above this.
 pub fn has_none_above<S: Alter>(conn: &mut Connection<S>, most: &i64) -> Result<bool, Error>
     ensures found { FindsNoneAbove most.now result (state S.Store conn.old) (state S.Store conn.new) }
+    ensures missed { FindsSomeAbove most.now result (state S.Store conn.old) (state S.Store conn.new) }
+    ensures done { DoneAsking result (state S.Store conn.old) (state S.Store conn.new) }
     ensures cause { AskCause result (state S.Store conn.old) (state S.Store conn.new) }
     ensures opened { KeepsOpen (state S.Store conn.old) (state S.Store conn.new) }
     ensures clean { HasCleanDisk (state S.Store conn.new) → HasCleanDisk (state S.Store conn.old) }
@@ -135,7 +140,8 @@ pub fn has_none_above<S: Alter>(conn: &mut Connection<S>, most: &i64) -> Result<
 
 /// Whether an answer has no row.
 fn is_empty(rows: &[Row]) -> bool
-    ensures { IsTrue result → rows.now ≡ [] }
+    ensures yes { IsTrue result → rows.now ≡ [] }
+    ensures no { rows.now ≡ [] → IsTrue result }
 {
     rows.is_empty()
 }

@@ -1,10 +1,9 @@
 //! Making the two tables.
 
-ghost use Rattle.std.specs.Prelude.{◌≤◌};
 ghost use Rattle.sqlite.specs.State.{HasCleanDisk};
 ghost use Rattle.sqlite.specs.Held.{state};
 ghost use Rattle.iss_tables.specs.Calls.{MakesHead, MakesPosts, MakesTables, LeavesHead, LeavesOurs, LeavesCommit, IsSettled};
-ghost use Rattle.iss_tables.specs.Causes.{MakeCause, MakePostCause, OpensMade};
+ghost use Rattle.iss_tables.specs.Causes.{DoneMaking, DoneMakingPost, MakeCause, MakePostCause};
 
 use sqlite::{Alter, Connection, Error};
 
@@ -13,10 +12,9 @@ fn make_head<S: Alter>(conn: &mut Connection<S>) -> Result<usize, Error>
     ensures made { MakesHead result (state S.Store conn.old) (state S.Store conn.new) }
     ensures alone { LeavesHead result (state S.Store conn.old) (state S.Store conn.new) }
     ensures stands { LeavesOurs result (state S.Store conn.old) (state S.Store conn.new) }
-    ensures opened { OpensMade result (state S.Store conn.old) (state S.Store conn.new) }
+    ensures done { DoneMaking result (state S.Store conn.old) (state S.Store conn.new) }
     ensures cause { MakeCause result (state S.Store conn.old) (state S.Store conn.new) }
     ensures clean { HasCleanDisk (state S.Store conn.new) → HasCleanDisk (state S.Store conn.old) }
-    ensures counted { (state S.Store conn.old).faults ≤ (state S.Store conn.new).faults }
 {
     conn.execute(
         "CREATE TABLE IF NOT EXISTS head (id INTEGER PRIMARY KEY, instance INTEGER NOT NULL, records INTEGER NOT NULL, \
@@ -29,6 +27,7 @@ fn make_head<S: Alter>(conn: &mut Connection<S>) -> Result<usize, Error>
 fn make_post<S: Alter>(conn: &mut Connection<S>) -> Result<usize, Error>
     ensures made { MakesPosts result (state S.Store conn.old) (state S.Store conn.new) }
     ensures stands { LeavesOurs result (state S.Store conn.old) (state S.Store conn.new) }
+    ensures done { DoneMakingPost result (state S.Store conn.old) (state S.Store conn.new) }
     ensures cause { MakePostCause result (state S.Store conn.old) (state S.Store conn.new) }
     ensures clean { HasCleanDisk (state S.Store conn.new) → HasCleanDisk (state S.Store conn.old) }
 {
@@ -43,6 +42,8 @@ fn make_post<S: Alter>(conn: &mut Connection<S>) -> Result<usize, Error>
 /// Makes the two tables of the archive, if they aren't there.
 pub fn make_tables<S: Alter>(conn: &mut Connection<S>) -> Result<(), Error>
     ensures made { MakesTables result (state S.Store conn.old) (state S.Store conn.new) }
+    ensures done { DoneMaking result (state S.Store conn.old) (state S.Store conn.new) }
+    ensures clean { HasCleanDisk (state S.Store conn.new) → HasCleanDisk (state S.Store conn.old) }
     ensures cause { MakeCause result (state S.Store conn.old) (state S.Store conn.new) }
 {
     make_head(conn)?;

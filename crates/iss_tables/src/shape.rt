@@ -11,14 +11,16 @@ use sqlite_schema::schema::{Column, Kind, Schema, Stamps, Table};
 use sqlite_value::keys::Collation;
 
 fn is_named(name: &Bytes, wanted: &str) -> bool
-    ensures { IsTrue result → name.now ≡ wanted.now }
+    ensures yes { IsTrue result → name.now ≡ wanted.now }
+    ensures no { name.now ≡ wanted.now → IsTrue result }
 {
     name.as_slice() == wanted.as_bytes()
 }
 
 /// Whether it is a strict column of this name, with no default.
 fn is_strict(column: &Column, name: &str) -> bool
-    ensures { IsTrue result → IsStrictAs name.now column.now }
+    ensures yes { IsTrue result → IsStrictAs name.now column.now }
+    ensures no { IsStrictAs name.now column.now → IsTrue result }
 {
     if !is_named(&column.name, name) {
         return false;
@@ -35,7 +37,8 @@ fn is_strict(column: &Column, name: &str) -> bool
 /// Whether it is a strict column of numbers.
 #[tactic(auto, using(crate::proofs::ShapeLemmas::column_is))]
 fn is_number(column: &Column, name: &str, not_null: bool) -> bool
-    ensures { IsTrue result → column.now ≡ strict name.now Integer not_null }
+    ensures yes { IsTrue result → column.now ≡ strict name.now Integer not_null }
+    ensures no { column.now ≡ strict name.now Integer not_null → IsTrue result }
 {
     if !is_strict(column, name) {
         return false;
@@ -49,7 +52,8 @@ fn is_number(column: &Column, name: &str, not_null: bool) -> bool
 /// Whether it is a strict column of texts that may be NULL.
 #[tactic(auto, using(crate::proofs::ShapeLemmas::column_is))]
 fn is_text(column: &Column, name: &str) -> bool
-    ensures { IsTrue result → column.now ≡ strict name.now Text false }
+    ensures yes { IsTrue result → column.now ≡ strict name.now Text false }
+    ensures no { column.now ≡ strict name.now Text false → IsTrue result }
 {
     if !is_strict(column, name) {
         return false;
@@ -62,7 +66,8 @@ fn is_text(column: &Column, name: &str) -> bool
 
 /// Whether a strict column of numbers stands at this place.
 fn has_number(columns: &[Column], at: usize, name: &str, not_null: bool) -> bool
-    ensures { IsTrue result → slice_get columns.now at ≡ Some (strict name.now Integer not_null) }
+    ensures yes { IsTrue result → slice_get columns.now at ≡ Some (strict name.now Integer not_null) }
+    ensures no { slice_get columns.now at ≡ Some (strict name.now Integer not_null) → IsTrue result }
 {
     match columns.get(at) {
         Some(column) => is_number(column, name, not_null),
@@ -72,7 +77,8 @@ fn has_number(columns: &[Column], at: usize, name: &str, not_null: bool) -> bool
 
 /// Whether a strict column of texts stands at this place.
 fn has_text(columns: &[Column], at: usize, name: &str) -> bool
-    ensures { IsTrue result → slice_get columns.now at ≡ Some (strict name.now Text false) }
+    ensures yes { IsTrue result → slice_get columns.now at ≡ Some (strict name.now Text false) }
+    ensures no { slice_get columns.now at ≡ Some (strict name.now Text false) → IsTrue result }
 {
     match columns.get(at) {
         Some(column) => is_text(column, name),
@@ -82,7 +88,8 @@ fn has_text(columns: &[Column], at: usize, name: &str) -> bool
 
 /// Whether the columns of the head come first.
 fn begin_as_head(columns: &[Column]) -> bool
-    ensures { IsTrue result → BeginAsHead columns.now }
+    ensures yes { IsTrue result → BeginAsHead columns.now }
+    ensures no { BeginAsHead columns.now → IsTrue result }
 {
     if !has_number(columns, 0, "id", false) {
         return false;
@@ -98,7 +105,8 @@ fn begin_as_head(columns: &[Column]) -> bool
 
 #[tactic(auto, using(crate::proofs::ShapeLemmas::head_columns_are))]
 fn are_head_columns(columns: &[Column]) -> bool
-    ensures { IsTrue result → columns.now ≡ head_columns }
+    ensures yes { IsTrue result → columns.now ≡ head_columns }
+    ensures no { columns.now ≡ head_columns → IsTrue result }
 {
     if columns.len() != 4 {
         return false;
@@ -108,7 +116,8 @@ fn are_head_columns(columns: &[Column]) -> bool
 
 /// Whether the first five columns of a posting come first.
 fn begin_as_post(columns: &[Column]) -> bool
-    ensures { IsTrue result → BeginAsPost columns.now }
+    ensures yes { IsTrue result → BeginAsPost columns.now }
+    ensures no { BeginAsPost columns.now → IsTrue result }
 {
     if !has_number(columns, 0, "seq", false) {
         return false;
@@ -127,7 +136,8 @@ fn begin_as_post(columns: &[Column]) -> bool
 
 /// Whether the other five columns of a posting come after five.
 fn end_as_post(columns: &[Column]) -> bool
-    ensures { IsTrue result → EndAsPost columns.now }
+    ensures yes { IsTrue result → EndAsPost columns.now }
+    ensures no { EndAsPost columns.now → IsTrue result }
 {
     if !has_number(columns, 5, "to_kind", true) {
         return false;
@@ -146,7 +156,8 @@ fn end_as_post(columns: &[Column]) -> bool
 
 #[tactic(auto, using(crate::proofs::ShapeLemmas::post_columns_are))]
 fn are_post_columns(columns: &[Column]) -> bool
-    ensures { IsTrue result → columns.now ≡ post_columns }
+    ensures yes { IsTrue result → columns.now ≡ post_columns }
+    ensures no { columns.now ≡ post_columns → IsTrue result }
 {
     if columns.len() != 10 {
         return false;
@@ -158,13 +169,15 @@ fn are_post_columns(columns: &[Column]) -> bool
 }
 
 fn has_no_terms(terms: &Terms) -> bool
-    ensures { IsTrue result → terms.now ≡ [] }
+    ensures yes { IsTrue result → terms.now ≡ [] }
+    ensures no { terms.now ≡ [] → IsTrue result }
 {
     terms.roots.is_empty()
 }
 
 fn has_no_stamps(stamps: &Stamps) -> bool
-    ensures { IsTrue result → stamps.now ≡ record { places = []; terms = []; formats = [] } }
+    ensures yes { IsTrue result → stamps.now ≡ record { places = []; terms = []; formats = [] } }
+    ensures no { stamps.now ≡ record { places = []; terms = []; formats = [] } → IsTrue result }
 {
     if !stamps.places.is_empty() {
         return false;
@@ -177,7 +190,8 @@ fn has_no_stamps(stamps: &Stamps) -> bool
 
 /// Whether it is a table of this name and tree that its first column keys, and asks nothing else of a row.
 fn is_plain(table: &Table, name: &str, tree: u32) -> bool
-    ensures { IsTrue result → IsPlainAs name.now tree table.now }
+    ensures yes { IsTrue result → IsPlainAs name.now tree table.now }
+    ensures no { IsPlainAs name.now tree table.now → IsTrue result }
 {
     if !is_named(&table.name, name) {
         return false;
@@ -198,7 +212,8 @@ fn is_plain(table: &Table, name: &str, tree: u32) -> bool
 }
 
 fn asks_nothing(table: &Table) -> bool
-    ensures { IsTrue result → AsksNothing table.now }
+    ensures yes { IsTrue result → AsksNothing table.now }
+    ensures no { AsksNothing table.now → IsTrue result }
 {
     if !has_no_terms(&table.checks) {
         return false;
@@ -214,7 +229,8 @@ fn asks_nothing(table: &Table) -> bool
 
 #[tactic(auto, using(crate::proofs::ShapeLemmas::table_is))]
 fn is_head(table: &Table) -> bool
-    ensures { IsTrue result → table.now ≡ head_table }
+    ensures yes { IsTrue result → table.now ≡ head_table }
+    ensures no { table.now ≡ head_table → IsTrue result }
 {
     if !is_plain(table, "head", 0) {
         return false;
@@ -224,7 +240,8 @@ fn is_head(table: &Table) -> bool
 
 #[tactic(auto, using(crate::proofs::ShapeLemmas::table_is))]
 fn is_post(table: &Table) -> bool
-    ensures { IsTrue result → table.now ≡ post_table }
+    ensures yes { IsTrue result → table.now ≡ post_table }
+    ensures no { table.now ≡ post_table → IsTrue result }
 {
     if !is_plain(table, "post", 1) {
         return false;
@@ -235,7 +252,8 @@ fn is_post(table: &Table) -> bool
 /// Whether both tables of the archive are there, and nothing else.
 #[tactic(auto, using(crate::proofs::ShapeLemmas::schema_is))]
 pub fn is_ours(schema: &Schema) -> bool
-    ensures { IsTrue result → schema.now ≡ archive_schema }
+    ensures yes { IsTrue result → schema.now ≡ archive_schema }
+    ensures no { schema.now ≡ archive_schema → IsTrue result }
 {
     if !schema.indexes.is_empty() || !schema.views.is_empty() {
         return false;
@@ -248,7 +266,8 @@ pub fn is_ours(schema: &Schema) -> bool
 
 /// Whether nothing was made yet.
 pub fn is_blank(schema: &Schema) -> bool
-    ensures { IsTrue result → schema.now ≡ no_schema }
+    ensures yes { IsTrue result → schema.now ≡ no_schema }
+    ensures no { schema.now ≡ no_schema → IsTrue result }
 {
     if !schema.indexes.is_empty() || !schema.views.is_empty() {
         return false;

@@ -8,12 +8,12 @@ use Rattle.iss_sql_keeper.proofs.adding.add_columns.Goals as goal
 pub returns-clause-added : goal.returns-clause-added
 returns-clause-added g c clean =
     let ours : IsOurs (state g.S.Store c.args.conn.now) = search rules in
-    on_ok _ c.add.result c.told.result c.told.ensures
+    on_ok _ c.add.result c.told.result c.told.ensures.same
     (added_to _ _ c.args.rows.now c.args.head.now c.add.result c.requires ours c.what_is_shown_is_committed.ensures c.add.ensures.added c.add.ensures.committed clean)
 
 pub returns-clause-undone : goal.returns-clause-undone
 returns-clause-undone g c =
-    on_err _ c.add.result c.told.result c.told.ensures (undone_stays _ _ c.args.rows.now c.args.head.now c.add.ensures.mode c.add.result c.add.ensures.clean c.add.ensures.undone)
+    on_err _ c.add.result c.told.result c.told.ensures.same (undone_stays _ _ c.args.rows.now c.args.head.now c.add.ensures.mode c.add.result c.add.ensures.clean c.add.ensures.undone)
 
 pub returns-clause-left : goal.returns-clause-left
 returns-clause-left g c =

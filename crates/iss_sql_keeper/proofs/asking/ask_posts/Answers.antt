@@ -17,5 +17,5 @@ returns-clause-left g c =
 pub returns-clause-shown : goal.returns-clause-shown
 returns-clause-shown g c =
     let ours : IsOurs (state g.S.Store c.args.conn.now) = search rules in
-    if_ok _ c.read_posts.result c.told.result c.told.ensures
+    if_ok _ c.read_posts.result c.told.result c.told.ensures.same
     (posts_held _ _ ours c.read_posts.ensures.kept c.read_posts.ensures.mode c.read_posts.ensures.survives c.requires c.what_is_shown_is_committed.ensures c.args.account.now c.read_posts.result c.read_posts.ensures.shown)

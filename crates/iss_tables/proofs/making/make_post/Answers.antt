@@ -1,5 +1,5 @@
 use Rattle.std.proofs.Common.{arith}
-use Rattle.iss_tables.proofs.TableLemmas.{post_made_by, post_left_by}
+use Rattle.iss_tables.proofs.TableLemmas.{post_made_by, post_left_by, post_done_by}
 use Rattle.iss_tables.proofs.Unmade.{post_unmade}
 use Rattle.iss_tables.proofs.making.make_post.Goals as goal
 
@@ -11,6 +11,9 @@ returns-clause-stands g c clean = post_left_by _ _ _ (c.execute.ensures.runs cle
 
 pub returns-clause-clean : goal.returns-clause-clean
 returns-clause-clean g c clean = omega (arith, c.execute.ensures.survives.clean)
+
+pub returns-clause-done : goal.returns-clause-done
+returns-clause-done g c clean can = post_done_by _ _ _ can (c.execute.ensures.runs clean) c.execute.ensures.survives.counts c.execute.ensures.survives.limit
 
 pub returns-clause-cause : goal.returns-clause-cause
 returns-clause-cause g c clean can = post_unmade _ _ _ can (c.execute.ensures.runs clean)
