@@ -1,27 +1,34 @@
 -- Dates, as days counted from 1970-01-01, by jiff's calendar.
-use Rattle.std.specs.Prelude.{ℕ, ◌+◌, ◌-◌, ◌*◌, Bool, ◌&&◌, ◌==◌, nat_le, ℤ, pos, unsigned_abs, int_le, List, [], ◌∷◌, Option, Some, None, if◌then◌else◌}
+use Rattle.std.specs.Prelude.{ℕ, ◌+◌, ◌-◌, ◌*◌, Bool, ◌&&◌, ◌==◌, nat_le, ℤ, pos, List, length, slice_index, Option, Some, None, if◌then◌else◌}
 use Rattle.jiff_core.specs.Calendar.{days_in_month, days_from_civil}
-use Rattle.iss_model.specs.Amounts.{is_digit, digits_value}
+use Rattle.iss_model.specs.Amounts.{is_digit}
 
 -- the number that two digits spell, if they are digits
 abbrev pub two_digits : ℕ → ℕ → Option ℕ
 two_digits tens ones = if is_digit tens && is_digit ones then Some (10 * (tens - 48) + (ones - 48)) else None
 
+-- the same for the two digits at this place and the next
+abbrev pub digits_at : List ℕ → ℕ → Option ℕ
+digits_at text place = two_digits (slice_index text place) (slice_index text (place + 1))
+
+-- ten bytes, with a hyphen after the year and one after the month
+abbrev pub is_hyphened : List ℕ → Bool
+is_hyphened text = length text == 10 && slice_index text 4 == 45 && slice_index text 7 == 45
+
 -- the year is one that a statement may have, and the calendar has this day
-abbrev pub is_statement_date : ℤ → ℤ → ℤ → Bool
+abbrev pub is_statement_date : ℕ → ℕ → ℕ → Bool
 is_statement_date year month day =
-    int_le (pos 1970) year && int_le year (pos 9998)
-    && int_le (pos 1) month && int_le month (pos 12)
-    && int_le (pos 1) day && int_le day (pos (days_in_month year (unsigned_abs month)))
+    nat_le 1970 year && nat_le year 9998
+    && nat_le 1 month && nat_le month 12
+    && nat_le 1 day && nat_le day (days_in_month (pos year) month)
 
 -- the number of such a day, counted from 1970-01-01
-abbrev pub day_of_civil : ℤ → ℤ → ℤ → Option ℤ
-day_of_civil year month day =
-    if is_statement_date year month day then Some (days_from_civil year (unsigned_abs month) (unsigned_abs day)) else None
+abbrev pub day_of_civil : ℕ → ℕ → ℕ → Option ℤ
+day_of_civil year month day = if is_statement_date year month day then Some (days_from_civil (pos year) month day) else None
 
--- the day of a date whose parts are there
-abbrev pub day_of_parts : Option ℕ → Option ℕ → Option ℕ → Option ℕ → Option ℤ
-day_of_parts (Some century) (Some year) (Some month) (Some day) = day_of_civil (pos (100 * century + year)) (pos month) (pos day)
+-- the same, if all parts of the date are there
+unfoldable pub day_of_parts : Option ℕ → Option ℕ → Option ℕ → Option ℕ → Option ℤ
+day_of_parts (Some century) (Some year) (Some month) (Some day) = day_of_civil (100 * century + year) month day
 day_of_parts (Some century) (Some year) (Some month) None = None
 day_of_parts (Some century) (Some year) None day = None
 day_of_parts (Some century) None month day = None
@@ -29,6 +36,4 @@ day_of_parts None year month day = None
 
 -- the day of a text `YYYY-MM-DD`
 unfoldable pub day_of_date : List ℕ → Option ℤ
-day_of_date (y1 ∷ y2 ∷ y3 ∷ y4 ∷ a ∷ m1 ∷ m2 ∷ b ∷ d1 ∷ d2 ∷ []) =
-    if a == 45 && b == 45 then day_of_parts (two_digits y1 y2) (two_digits y3 y4) (two_digits m1 m2) (two_digits d1 d2) else None
-day_of_date text = None
+day_of_date text = if is_hyphened text then day_of_parts (digits_at text 0) (digits_at text 2) (digits_at text 5) (digits_at text 8) else None

@@ -1,5 +1,5 @@
 //! A statement as lines.
-ghost use Rattle.std.specs.Prelude.{◌≡◌, ◌++◌, map, codes, decimal, pos, neg_ℤ, ◌+ℤ◌, ◌<ℤ◌, ◌≤ℤ◌, ◌^◌, IsTrue, IfOk, OnOk};
+ghost use Rattle.std.specs.Prelude.{◌≡◌, [], ◌∷◌, ◌++◌, map, codes, decimal, pos, neg_ℤ, ◌+ℤ◌, ◌<ℤ◌, ◌≤ℤ◌, ◌^◌, IsTrue, IfOk, OnOk};
 ghost use Rattle.iss_archive.specs.Archived.{rows_of_user};
 ghost use Rattle.iss_archive.specs.Statable as statable;
 ghost use Rattle.iss_archive.specs.Statement as spec;
@@ -52,7 +52,8 @@ fn put_rows(
         ≡ lines.old.items ++ map (spec.row_line user.now currency) (rows_to to (rows_of_user user.now currency rows.now))) }
     ensures closing { IfOk result (λ closing. closing
         ≡ balance +ℤ spec.added_by user.now currency (rows_to to (rows_of_user user.now currency rows.now))) }
-    ensures small { IfOk result (λ closing. IsTrue (statable.is_small closing)) }
+    ensures low { IfOk result (λ closing. neg_ℤ (pos (2 ^ 63)) <ℤ closing) }
+    ensures high { IfOk result (λ closing. closing <ℤ pos (2 ^ 63)) }
 {
     let mut closing = balance;
     'rows: for row in rows {
@@ -96,7 +97,7 @@ fn row_line(
     requires high { statable.signed_amount user.now currency row.now <ℤ pos (2 ^ 63) }
     ensures { IfOk result (λ line. line ≡ spec.row_line user.now currency row.now) }
 {
-    let amount = write(alloc, signed_amount(row, user, currency) as i64, currency)?;
+    let amount = write(alloc, narrow(signed_amount(row, user, currency)), currency)?;
     let mut line = Vec::new(alloc);
     put_members(
         &mut line,
@@ -149,10 +150,11 @@ fn balance_line(
     balance: i128,
     currency: Currency,
 ) -> Result<Bytes, AllocError>
-    requires { IsTrue (statable.is_small balance) }
+    requires low { neg_ℤ (pos (2 ^ 63)) <ℤ balance }
+    requires high { balance <ℤ pos (2 ^ 63) }
     ensures { IfOk result (λ line. line ≡ spec.balance_line which.now balance currency) }
 {
-    let text = write(alloc, balance as i64, currency)?;
+    let text = write(alloc, narrow(balance), currency)?;
     let mut line = Vec::new(alloc);
     put_text(&mut line, b"{\"balance\":\"", text.as_bytes())?;
     put_text(&mut line, b"\",\"line\":\"", which)?;
@@ -172,6 +174,15 @@ fn put_number(out: &mut Vec<u8>, name: &[u8], number: u64) -> Result<(), AllocEr
 {
     out.extend_from_slice(name)?;
     put_decimal(out, number)
+}
+
+/// The same amount in 64 bits.
+fn narrow(amount: i128) -> i64
+    requires low { neg_ℤ (pos (2 ^ 63)) <ℤ amount }
+    requires high { amount <ℤ pos (2 ^ 63) }
+    ensures { result ≡ amount }
+{
+    amount as i64
 }
 
 /// The account on the other side of a row of the user.
