@@ -2,7 +2,6 @@
 use Rattle.std.proofs.Common.{◌≡◌, ⊎_elim, ℕ, ℤ, pos, ◌+ℤ◌, negsuc, ◌≤◌, ◌/◌, ◌+◌, int_lt, Bool, true, false, not, ◌&&◌, List, [], ◌∷◌, filter, refl, sym, ap, ◌∙◌, arith}
 use Rattle.std.proofs.lemmas.Int.{ints}
 use Rattle.std.proofs.lemmas.Bool.Decides.{nat_tests}
-use Rattle.std.specs.List.{list_all}
 use Rattle.iss_model.specs.declared.currency.Currency.{Currency}
 use Rattle.iss_model.specs.declared.input.Record.{Record}
 use Rattle.iss_archive.specs.declared.post.PostRow.{PostRow}
@@ -28,9 +27,6 @@ right_adds : (s a b x later : ℤ) → a +ℤ b ≡ x → later ≡ s +ℤ b →
 right_adds s a b x later e h = omega (arith, ints)
 
 module _ (u : List ℕ) (c : Currency) (first last : ℤ) where
-  within : PostRow → Bool
-  within row = not (is_before first row) && not (is_after last row)
-
   -- if no row is of a later day, those of earlier days and those that are shown add all
   splits : (rows : List PostRow) → is_covered last rows ≡ true → added_by u c (filter (is_before first) rows) +ℤ added_by u c (rows_between first last rows) ≡ added_by u c rows
   splits [] h = refl

@@ -1,5 +1,5 @@
 -- The lines of a statement, piece by piece.
-use Rattle.std.proofs.Common.{◌≡◌, ℕ, ℤ, List, [], ◌∷◌, ◌++◌, codes, decimal, Option, Some, None, refl, sym, ap, ◌∙◌, append_assoc}
+use Rattle.std.proofs.Common.{◌≡◌, ℕ, ℤ, List, [], ◌∷◌, ◌++◌, codes, decimal, Option, Some, None, sym, ap, ◌∙◌, append_assoc}
 use Rattle.iss_model.specs.declared.currency.Currency.{Currency}
 use Rattle.iss_model.specs.Amounts.{amount_text}
 use Rattle.iss_model.specs.texts.Wordings.{with_text, with_number, line_of}

@@ -1,11 +1,11 @@
 -- Rows that can be put into a statement are in order of their days.
-use Rattle.std.proofs.Common.{◌≡◌, ℕ, ℤ, pos, negsuc, ◌+◌, ◌/◌, ◌≤◌, ◌+ℤ◌, Bool, true, false, not, nat_le, int_lt, ◌&&◌, List, [], ◌∷◌, refl, arith}
+use Rattle.std.proofs.Common.{◌≡◌, ℕ, ℤ, pos, negsuc, ◌+◌, ◌/◌, ◌≤◌, ◌+ℤ◌, true, false, not, nat_le, int_lt, ◌&&◌, List, [], ◌∷◌, refl, arith}
 use Rattle.std.proofs.lemmas.Bool.Decides.{nat_tests}
 use Rattle.std.specs.List.{list_all}
 use Rattle.iss_model.specs.declared.currency.Currency.{Currency}
 use Rattle.iss_archive.specs.declared.post.PostRow.{PostRow}
 use Rattle.iss_archive.specs.Statable.{signed_amount, is_user, is_small, is_next_statable, is_statable_from}
-use Rattle.iss_archive.specs.Statement.{day_of, is_before, is_after}
+use Rattle.iss_archive.specs.Statement.{is_before, is_after}
 use Rattle.iss_statement.specs.Openings.{GoesOn}
 use Rattle.iss_statement.proofs.Rows.{both, join, all_weaker}
 

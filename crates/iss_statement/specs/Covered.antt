@@ -1,5 +1,5 @@
 -- The days that a statement covers.
-use Rattle.std.specs.Prelude.{◌≡◌, ℕ, ℤ, Bool, not, false, List, [], ◌∷◌}
+use Rattle.std.specs.Prelude.{◌≡◌, ℤ, Bool, not, false, List, [], ◌∷◌}
 use Rattle.std.specs.List.{list_all}
 use Rattle.iss_archive.specs.declared.post.PostRow.{PostRow}
 use Rattle.iss_archive.specs.Statement.{is_after}

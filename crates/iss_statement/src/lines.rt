@@ -32,7 +32,15 @@ pub fn statement_lines(
     let mut lines = Vec::new(alloc);
     lines.push(balance_line(alloc, b"opening", opening.balance, currency)?)?;
     let shown = &rows[opening.rows..];
-    let closing = put_rows(alloc, &mut lines, shown, user, currency, opening.balance, to)?;
+    let closing = put_rows(
+        alloc,
+        &mut lines,
+        shown,
+        user,
+        currency,
+        opening.balance,
+        to,
+    )?;
     lines.push(balance_line(alloc, b"closing", closing, currency)?)?;
     Ok(lines)
 }

@@ -53,9 +53,12 @@ fn the_second_day(rt: HostRuntime) -> Result<(), Fail> {
     let user = Token::new(b"u1").ok_or("no token")?;
     let txn = Token::new(b"a1").ok_or("no token")?;
     let text = statement(rt.alloc(), &two_rows(user, txn), &user, Currency::Usd, 1, 1)?;
-    assert!(rt; text.as_slice() == b"{\"balance\":\"60.00\",\"line\":\"opening\"}\n\
+    assert!(rt;
+        text.as_slice()
+            == b"{\"balance\":\"60.00\",\"line\":\"opening\"}\n\
         {\"amount\":\"-60.00\",\"at\":86400000,\"other\":\"network\",\"record\":6,\"txn\":\"a1\"}\n\
-        {\"balance\":\"0.00\",\"line\":\"closing\"}\n");
+        {\"balance\":\"0.00\",\"line\":\"closing\"}\n"
+    );
     Ok(())
 }
 
@@ -64,10 +67,13 @@ fn both_days(rt: HostRuntime) -> Result<(), Fail> {
     let user = Token::new(b"u1").ok_or("no token")?;
     let txn = Token::new(b"a1").ok_or("no token")?;
     let text = statement(rt.alloc(), &two_rows(user, txn), &user, Currency::Usd, 0, 1)?;
-    assert!(rt; text.as_slice() == b"{\"balance\":\"0.00\",\"line\":\"opening\"}\n\
+    assert!(rt;
+        text.as_slice()
+            == b"{\"balance\":\"0.00\",\"line\":\"opening\"}\n\
         {\"amount\":\"60.00\",\"at\":0,\"other\":\"gateway\",\"record\":5}\n\
         {\"amount\":\"-60.00\",\"at\":86400000,\"other\":\"network\",\"record\":6,\"txn\":\"a1\"}\n\
-        {\"balance\":\"0.00\",\"line\":\"closing\"}\n");
+        {\"balance\":\"0.00\",\"line\":\"closing\"}\n"
+    );
     Ok(())
 }
 
@@ -76,9 +82,12 @@ fn the_first_day_alone(rt: HostRuntime) -> Result<(), Fail> {
     let user = Token::new(b"u1").ok_or("no token")?;
     let txn = Token::new(b"a1").ok_or("no token")?;
     let text = statement(rt.alloc(), &two_rows(user, txn), &user, Currency::Usd, 0, 0)?;
-    assert!(rt; text.as_slice() == b"{\"balance\":\"0.00\",\"line\":\"opening\"}\n\
+    assert!(rt;
+        text.as_slice()
+            == b"{\"balance\":\"0.00\",\"line\":\"opening\"}\n\
         {\"amount\":\"60.00\",\"at\":0,\"other\":\"gateway\",\"record\":5}\n\
-        {\"balance\":\"60.00\",\"line\":\"closing\"}\n");
+        {\"balance\":\"60.00\",\"line\":\"closing\"}\n"
+    );
     Ok(())
 }
 
@@ -87,8 +96,18 @@ fn a_user_with_no_row(rt: HostRuntime) -> Result<(), Fail> {
     let user = Token::new(b"u1").ok_or("no token")?;
     let stranger = Token::new(b"u9").ok_or("no token")?;
     let txn = Token::new(b"a1").ok_or("no token")?;
-    let text = statement(rt.alloc(), &two_rows(user, txn), &stranger, Currency::Usd, 1, 1)?;
-    assert!(rt; text.as_slice() == b"{\"balance\":\"0.00\",\"line\":\"opening\"}\n{\"balance\":\"0.00\",\"line\":\"closing\"}\n");
+    let text = statement(
+        rt.alloc(),
+        &two_rows(user, txn),
+        &stranger,
+        Currency::Usd,
+        1,
+        1,
+    )?;
+    assert!(rt;
+        text.as_slice()
+            == b"{\"balance\":\"0.00\",\"line\":\"opening\"}\n{\"balance\":\"0.00\",\"line\":\"closing\"}\n"
+    );
     Ok(())
 }
 
@@ -97,6 +116,9 @@ fn a_currency_with_no_row(rt: HostRuntime) -> Result<(), Fail> {
     let user = Token::new(b"u1").ok_or("no token")?;
     let txn = Token::new(b"a1").ok_or("no token")?;
     let text = statement(rt.alloc(), &two_rows(user, txn), &user, Currency::Jpy, 1, 1)?;
-    assert!(rt; text.as_slice() == b"{\"balance\":\"0\",\"line\":\"opening\"}\n{\"balance\":\"0\",\"line\":\"closing\"}\n");
+    assert!(rt;
+        text.as_slice()
+            == b"{\"balance\":\"0\",\"line\":\"opening\"}\n{\"balance\":\"0\",\"line\":\"closing\"}\n"
+    );
     Ok(())
 }

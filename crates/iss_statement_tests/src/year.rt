@@ -19,8 +19,16 @@ fn posting(number: u32, user: Token) -> PostRow {
         seq: u64::from(number) + 1,
         number: number + 1,
         at: STEP * u64::from(number),
-        from: if is_load { Account::Programme(Currency::Usd) } else { own },
-        to: if is_load { own } else { Account::Network(Currency::Usd) },
+        from: if is_load {
+            Account::Programme(Currency::Usd)
+        } else {
+            own
+        },
+        to: if is_load {
+            own
+        } else {
+            Account::Network(Currency::Usd)
+        },
         amount: if is_load { 400 } else { 100 },
         txn: Some(user),
     }

@@ -1,4 +1,4 @@
-use Rattle.std.proofs.Common.{rules, ◌≡◌, ℕ, ℤ, pos, FitsSigned, w32, w64, to_z, of_z, ap, ◌∙◌, arith}
+use Rattle.std.proofs.Common.{rules, ◌≡◌, pos, FitsSigned, w32, w64, to_z, of_z, ap, ◌∙◌, arith}
 use Rattle.std.proofs.lemmas.Int.{ints, to_z-of_z}
 use Rattle.jiff_core.specs.Date.{epoch_day}
 use Rattle.iss_statement.proofs.DateLaws.{made_of}

@@ -1,11 +1,10 @@
 use Rattle.std.proofs.Common.{◌≡◌, ◌++◌, ℕ, ℤ, List, codes, decimal, FitsSigned, w64, to_z, of_z, ap, ◌∙◌, arith, rules}
 use Rattle.std.proofs.lemmas.Int.{ints}
 use Rattle.iss_model.specs.Amounts.{amount_text}
-use Rattle.iss_model.specs.declared.account.Account.{Account}
 use Rattle.iss_archive.specs.Statable.{signed_amount}
 use Rattle.iss_archive.specs.Statement.{account_text, other_side}
 use Rattle.iss_statement.specs.Openings.{end_piece}
-use Rattle.iss_statement.proofs.LineTexts.{pieces, row_text}
+use Rattle.iss_statement.proofs.LineTexts.{row_text}
 use Rattle.iss_statement.proofs.lines.row_line.Goals as goal
 
 pub returns : goal.returns

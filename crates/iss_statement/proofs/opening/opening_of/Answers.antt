@@ -1,9 +1,8 @@
-use Rattle.std.proofs.Common.{◌≡◌, ℤ, ◌+ℤ◌, ◌<ℤ◌, ◌≤ℤ◌, true, false, drop, FitsSigned, w64, to_z, of_z, ap, subst, sym, ◌∙◌, arith, rules}
+use Rattle.std.proofs.Common.{◌≡◌, ℤ, ◌+ℤ◌, ◌<ℤ◌, ◌≤ℤ◌, drop, w64, to_z, of_z, subst, arith}
 use Rattle.std.specs.Int.{w128}
 use Rattle.std.proofs.lemmas.Int.{ints, to_z-of_z}
 use Rattle.iss_archive.specs.Statable.{signed_amount}
-use Rattle.iss_archive.specs.Statement.{day_of, is_before}
-use Rattle.iss_statement.specs.Openings.{IsOpening}
+use Rattle.iss_archive.specs.Statement.{day_of}
 use Rattle.iss_statement.proofs.Steps.{Opens, to_lt, not_lt, opening_next, opening_at, opening_end}
 use Rattle.iss_statement.proofs.opening.opening_of.Goals as goal
 
