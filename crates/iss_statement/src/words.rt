@@ -21,7 +21,7 @@ pub struct StatementWords {
 ///
 /// USER is a token, and CURRENCY the alphabetic code of a currency, such as `USD`. FROM and TO are dates `YYYY-MM-DD` of the
 /// calendar, from 1970-01-01 to 9998-12-31, and FROM isn't after TO. For other words it is `None`.
-#[tactic(auto, using(crate::proofs::Counts::fewer, crate::proofs::Counts::five_or_more), unfolding(crate::specs::Words::asked_of_words))]
+#[tactic(auto, unfolding(crate::specs::Words::asked_of_words))]
 pub fn statement_words(words: &[String]) -> Option<StatementWords>
     ensures { result ≡ asked_in words.now }
 {
