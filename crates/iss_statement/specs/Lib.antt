@@ -1,0 +1,4 @@
+pub mod Openings
+pub mod Dates
+pub mod Words
+pub mod Covered

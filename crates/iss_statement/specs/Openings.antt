@@ -1,0 +1,31 @@
+-- Where a statement begins among rows in order, and how it goes on.
+use Rattle.std.specs.Prelude.{◌≡◌, ◌≤◌, ℕ, ℤ, true, not, List, ◌++◌, length, filter, drop, codes, Option, Some, None}
+use Rattle.iss_model.specs.declared.currency.Currency.{Currency}
+use Rattle.iss_archive.specs.declared.post.PostRow.{PostRow}
+use Rattle.iss_archive.specs.Archived.{rows_of_user}
+use Rattle.iss_archive.specs.Statable.{is_small, is_statable_from}
+use Rattle.iss_archive.specs.Statement.{is_after, rows_between, opening_balance}
+use Rattle.iss_statement.specs.declared.opening.Opening.{Opening}
+
+-- these rows can follow others, after which the user has this
+pub record GoesOn (user : List ℕ) (currency : Currency) (balance : ℤ) (rows : List PostRow) : Type 0 where
+  pub least : ℕ
+  pub stamp : ℕ
+  pub small : is_small balance ≡ true
+  pub statable : is_statable_from user currency least stamp balance rows ≡ true
+
+-- the rows of the days up to this one
+abbrev pub rows_to : ℤ → List PostRow → List PostRow
+rows_to day rows = filter (λ row. not (is_after day row)) rows
+
+-- what the user had before the first day, and that only the rows after those of earlier days are shown
+pub record IsOpening (user : List ℕ) (currency : Currency) (first : ℤ) (rows : List PostRow) (o : Opening) : Type 0 where
+  pub within : o.rows ≤ length rows
+  pub balance_is : o.balance ≡ opening_balance user currency first (rows_of_user user currency rows)
+  pub shown : (last : ℤ) → rows_between first last (rows_of_user user currency rows) ≡ rows_to last (rows_of_user user currency (drop o.rows rows))
+  pub goes_on : GoesOn user currency o.balance (drop o.rows rows)
+
+-- the end of a row's line, with its transaction if there is one
+abbrev pub end_piece : Option (List ℕ) → List ℕ
+end_piece None = codes "}\n"
+end_piece (Some txn) = (codes ",\"txn\":\"" ++ txn) ++ codes "\"}\n"
