@@ -18,12 +18,7 @@ use std::alloc::Global;
 /// first half, and no record after it. `catch FROM TO` commits to TO the records of FROM that it doesn't hold. `same FROM TO` writes
 /// how many records FROM has, and whether both devices stand for the same, on channel 0 of FROM.
 #[tactic(auto, using(crate::proofs::Statuses::ended, crate::proofs::Statuses::copy_status, crate::proofs::Statuses::catch_status, crate::proofs::Statuses::same_status, crate::proofs::Statuses::no_command, crate::proofs::Statuses::copy_leaves))]
-pub fn follow<F: Edge, T: Edge>(
-    alloc: Global,
-    words: &[String],
-    from: &mut F,
-    to: &mut T,
-) -> u8
+pub fn follow<F: Edge, T: Edge>(alloc: Global, words: &[String], from: &mut F, to: &mut T) -> u8
     // The status is one of those that the words may have. It is 2 exactly if they are no command, and then nothing is done. If it
     // blames the output or a disk, that is at fault.
     ensures status { StatusOn F.faults T.faults from.old from.new to.old to.new (command_in words.now) result }

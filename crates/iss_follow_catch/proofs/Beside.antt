@@ -21,7 +21,7 @@ use Rattle.iss_opening.proofs.Openings.{closing_good, closing_opens, reading_goo
 use Rattle.iss_opening.proofs.Readings.{none_read, these_read}
 use Rattle.iss_opening.proofs.Telling.{told_both}
 use Rattle.iss_opening.proofs.ToldReadings.{read_good, still, told_fault}
-use Rattle.iss_follow_catch.specs.Behind.{HoldSame, HasMet, HasNotMet, KnowsMet, Passes, ReadsBeside, AllBeside, OpensAhead}
+use Rattle.iss_follow_catch.specs.Behind.{HoldSame, HasNotMet, KnowsMet, Passes, ReadsBeside, AllBeside, OpensAhead}
 use Rattle.iss_follow_catch.proofs.Moments.{finds_behind}
 
 -- ---- before the first record
@@ -87,8 +87,8 @@ known_next start rs r core other false false later kept form is known passes = (
     not_met first rest cut same =
         elim (cut_at rs first rest r cut) [
           | inl whole ↦
-            let now : HoldSame core other = subst (λ (c : CoreNow). HoldSame c other) (ap (λ (l : List Record). core_after start l) whole ∙ sym is) same in
-            absurd (cc (passes.1.1 now))
+              let now : HoldSame core other = subst (λ (c : CoreNow). HoldSame c other) (ap (λ (l : List Record). core_after start l) whole ∙ sym is) same in
+              absurd (cc (passes.1.1 now))
           | inr front ↦ known.1 first front.0 front.1 same
         ]
 

@@ -1,6 +1,6 @@
 -- Records that are committed one after the other: what then stands, and how the run goes on.
-use Rattle.std.proofs.Common.{◌≡◌, ◌<◌, ◌≤◌, ℕ, suc, ◌+◌, Bool, true, false, List, [], ◌∷◌, ◌++◌, length, take, drop, inl, inr, refl, sym, ap, subst, ◌∙◌, arith, append_assoc, append-nil}
-use Rattle.std.specs.Prelude.{◌≢◌, get_or, Option, Some, None, Result, Ok, Err, IsErrOf, if◌then◌else◌}
+use Rattle.std.proofs.Common.{◌≡◌, ◌<◌, ◌≤◌, ℕ, ◌+◌, Bool, true, false, List, [], ◌∷◌, ◌++◌, length, take, drop, refl, sym, ap, subst, ◌∙◌, arith, append_assoc, append-nil}
+use Rattle.std.specs.Prelude.{◌≢◌, get_or, Option, Some, Result, Ok, Err, if◌then◌else◌}
 use Rattle.std.proofs.lemmas.Grind.{take_at_read}
 use Rattle.std.proofs.lemmas.List.{take-append-drop, drop_all}
 use Rattle.std.proofs.lemmas.Option.{same_Some}
@@ -9,11 +9,11 @@ use Rattle.iss_edge.proofs.Tolds.{told_map, told_then, later_self, later_then, r
 use Rattle.iss_halves.specs.Forms.{Form, Seat}
 use Rattle.iss_model.specs.declared.input.Record.{Record}
 use Rattle.iss_model.specs.rules.Histories.{Follows, IsLegalAfter, history_of, nothing_yet}
-use Rattle.iss_model.specs.run.Rooms.{Room, room_after, room_left}
+use Rattle.iss_model.specs.run.Rooms.{Room, room_after}
 use Rattle.iss_standing.specs.Standing.{AreHistory}
-use Rattle.iss_standing.specs.Goings.{AreFirstOf, StepsGo, StepsGoPart}
+use Rattle.iss_standing.specs.Goings.{StepsGo, StepsGoPart}
 use Rattle.iss_standing.proofs.Goings.{goes_then, goes_then_part, goes_part, nothing_goes}
-use Rattle.iss_opening.specs.Values.{StoreNow, form_under, seat_under, room_of}
+use Rattle.iss_opening.specs.Values.{StoreNow, form_under, seat_under}
 use Rattle.iss_opening.specs.Standing.{StandsFor}
 use Rattle.iss_opening.proofs.Spelled.{follows_at}
 use Rattle.iss_store.specs.Values.{Plan, DurableNow}
@@ -21,8 +21,8 @@ use Rattle.iss_store.specs.Planning.{store_for, turns_for, store_turned}
 use Rattle.iss_store.specs.Committing.{Commits, CommitsOnBook, Keeps, KeepsPart}
 use Rattle.iss_follow_runs.specs.declared.stop.Stop.{Stop}
 use Rattle.iss_follow_runs.specs.declared.stop.Stop.TheVariants as stop
-use Rattle.iss_follow_catch.specs.Rooms.{room_on, room_behind, FitsNext, FitsAll, FitsUpTo}
-use Rattle.iss_follow_catch.specs.Committing.{TakesUp, Lasts, LastsPart, LastsInPart, StopsAt, WhereUnplanned, CommitsAll, CommitsUpTo, CommitRun, DiskCaused, EndsAsCommit}
+use Rattle.iss_follow_catch.specs.Rooms.{room_on, room_behind, FitsNext, FitsAll}
+use Rattle.iss_follow_catch.specs.Committing.{TakesUp, Lasts, LastsInPart, StopsAt, WhereUnplanned, CommitRun, DiskCaused, EndsAsCommit}
 
 -- ---- rooms, one record after the other
 
@@ -267,13 +267,13 @@ caused_later before between now result first cause =
     }
 
 -- what isn't planned leaves all as it was, and so what is told
-pub unplanned_so : {T U : Type 0} (why : Stop) (P Q : Type 0) → (P → Q) → WhereUnplanned {T = T} (Err why) P → WhereUnplanned {T = U} (Err why) Q
-unplanned_so stop.NoRoom P Q f p = f p
-unplanned_so stop.NotBehind P Q f p = f p
-unplanned_so stop.Disk P Q f p = tt
-unplanned_so stop.Memory P Q f p = tt
-unplanned_so stop.Device P Q f p = tt
-unplanned_so stop.Output P Q f p = tt
+pub unplanned_so : (T U : Type 0) (why : Stop) (P Q : Type 0) → (P → Q) → WhereUnplanned {T = T} (Err why) P → WhereUnplanned {T = U} (Err why) Q
+unplanned_so T U stop.NoRoom P Q f p = f p
+unplanned_so T U stop.NotBehind P Q f p = f p
+unplanned_so T U stop.Disk P Q f p = tt
+unplanned_so T U stop.Memory P Q f p = tt
+unplanned_so T U stop.Device P Q f p = tt
+unplanned_so T U stop.Output P Q f p = tt
 
 -- ---- the records of a loop
 

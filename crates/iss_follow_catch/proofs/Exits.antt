@@ -1,14 +1,13 @@
 -- What catching up did at each of its ends.
-use Rattle.std.proofs.Common.{◌≡◌, ◌≤◌, ℕ, inl, inr, Bool, true, false, List, [], ◌∷◌, ◌++◌, length, take, drop, Option, Some, None, Ok, Err, refl, sym, ap, subst, ◌∙◌, append_assoc, append-nil, arith}
-use Rattle.std.specs.Prelude.{◌⊎◌, Result, IsErrOf}
+use Rattle.std.proofs.Common.{◌≡◌, ℕ, inl, inr, Bool, true, false, List, [], ◌++◌, length, take, drop, Option, Ok, Err, refl, sym, ap, subst, ◌∙◌, append_assoc, arith}
+use Rattle.std.specs.Prelude.{Result, IsErrOf}
 use Rattle.iss_edge.specs.World.{World, Told, Faults, Later, Rose}
 use Rattle.iss_edge.specs.Calls.{Same}
-use Rattle.iss_edge.proofs.Tolds.{told_map, told_then, told_self, same_self, later_self, later_then, rose_later}
+use Rattle.iss_edge.proofs.Tolds.{told_map, told_self, same_self, later_self, later_then, rose_later}
 use Rattle.iss_halves.specs.Forms.{Form, Seat}
 use Rattle.iss_model.specs.declared.input.Record.{Record}
 use Rattle.iss_model.specs.run.Rooms.{Room}
 use Rattle.iss_standing.specs.Standing.{AreHistory, image_after, DeviceStandsFor}
-use Rattle.iss_standing.specs.Goings.{AreFirstOf, StepsGo}
 use Rattle.iss_standing.specs.Rooms.{room_in}
 use Rattle.iss_standing.proofs.Few.{few_stand}
 use Rattle.iss_opening.specs.declared.fault.OpenFault.{OpenFault}
@@ -22,8 +21,8 @@ use Rattle.iss_device.proofs.Devices.{Behind, told_behind}
 use Rattle.iss_follow_runs.specs.declared.stop.Stop.{Stop}
 use Rattle.iss_follow_runs.specs.declared.stop.Stop.TheVariants as stop
 use Rattle.iss_follow_runs.specs.Statuses.{exit_status, stop_of_opening}
-use Rattle.iss_follow_runs.specs.Moments.{MomentsOf, KeepsMoments, KeepsRecords, EndsWith}
-use Rattle.iss_follow_runs.specs.Causes.{IsCaused, BothTold}
+use Rattle.iss_follow_runs.specs.Moments.{KeepsMoments, EndsWith}
+use Rattle.iss_follow_runs.specs.Causes.{BothTold}
 use Rattle.iss_follow_runs.specs.Refusals.{RefusesEither}
 use Rattle.iss_follow_runs.specs.Holdings.{image_of}
 use Rattle.iss_follow_runs.proofs.Images.{image_opened, instance_opened, count_opened, room_opened}
@@ -264,18 +263,17 @@ module _ (t : StoreNow) (other_before other_now : Faults) (z w : Option World) (
           }
         where
           up_to_in : (room own : Room) → room ≡ own → (some : FitsUpTo room others (missing rs others)) → (up_to : FitsUpTo own others (missing rs others)) × (up_to.first ≡ some.first)
-          up_to_in room own same some =
-              (
-                record {
-                  first = some.first;
-                  r = some.r;
-                  rest = some.rest;
-                  cut = some.cut;
-                  fit = subst (λ (x : Room). FitsAll x others some.first) same some.fit;
-                  full = subst (λ (x : Room). FitsNext (room_behind x others some.first) (others ++ some.first) some.r → ⊥) same some.full;
-                },
-                refl,
-              )
+          up_to_in room own same some = (
+            record {
+              first = some.first;
+              r = some.r;
+              rest = some.rest;
+              cut = some.cut;
+              fit = subst (λ (x : Room). FitsAll x others some.first) same some.fit;
+              full = subst (λ (x : Room). FitsNext (room_behind x others some.first) (others ++ some.first) some.r → ⊥) same some.full;
+            },
+            refl,
+          )
 
       run_on : (result : Result (Unit {0}) Stop) → CommitRun t (missing rs others) result d e → LastsInPart t (missing rs others) d e → CatchOn (exit_status result) form seat rs other other_seat others c e
       run_on (Ok tt) run part =

@@ -1,18 +1,18 @@
 -- Whether the core of another device stood on a device that stands for records, by what was read of it.
-use Rattle.std.proofs.Common.{◌≡◌, ℕ, ◌+◌, ◌-◌, ◌≤◌, Bool, true, false, List, [], ◌∷◌, ◌++◌, length, take, drop, refl, sym, ap, subst, ◌∙◌, append_assoc, length-append, arith}
+use Rattle.std.proofs.Common.{◌≡◌, ℕ, ◌+◌, ◌-◌, ◌≤◌, Bool, true, false, List, ◌++◌, length, take, drop, sym, ap, subst, ◌∙◌, append_assoc, length-append, arith}
 use Rattle.std.proofs.lemmas.List.{take-append-drop, length-take-le, length-drop, take_at, drop_at}
 use Rattle.iss_edge.specs.World.{World}
-use Rattle.iss_halves.specs.Forms.{Form, Seat}
+use Rattle.iss_halves.specs.Forms.{Seat}
 use Rattle.iss_model.specs.declared.input.Record.{Record}
 use Rattle.iss_core.specs.Values.{CoreNow, CoreStandsFor}
-use Rattle.iss_standing.specs.Standing.{image_after, DeviceStandsFor}
+use Rattle.iss_standing.specs.Standing.{image_after}
 use Rattle.iss_opening.specs.Values.{StoreNow}
 use Rattle.iss_opening.specs.Reading.{core_after}
 use Rattle.iss_opening.proofs.Afters.{after_count, stands_after}
 use Rattle.iss_opening.proofs.Stands.{all_later, point_is, start_stands}
 use Rattle.iss_follow_runs.specs.Holdings.{image_of}
 use Rattle.iss_follow_runs.proofs.Images.{image_stands}
-use Rattle.iss_follow_catch.specs.Behind.{HoldSame, HasMet, HasNotMet, KnowsMet, AllBeside, IsPastCore, FindsCore, FindsBehind}
+use Rattle.iss_follow_catch.specs.Behind.{HasMet, HasNotMet, KnowsMet, AllBeside, IsPastCore, FindsCore, FindsBehind}
 
 -- the core after the first p records and some more, by all of them
 record IsAfter (start : CoreNow) (rs first rest : List Record) (p : ℕ) : Type 0 where

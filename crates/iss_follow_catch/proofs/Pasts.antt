@@ -1,12 +1,10 @@
 -- What stood on the first device, and what stands on the second: whether the second is behind the first, and what comes after both.
-use Rattle.std.proofs.Common.{◌≡◌, ◌<◌, ◌≤◌, ℕ, Bool, true, false, List, [], ◌∷◌, ◌++◌, length, take, drop, refl, sym, ap, subst, ◌∙◌, arith, append_assoc}
-use Rattle.std.specs.Prelude.{Option, Some, None}
+use Rattle.std.proofs.Common.{◌≡◌, ◌≤◌, true, List, [], ◌∷◌, ◌++◌, length, take, drop, refl, sym, ap, subst, ◌∙◌, arith, append_assoc}
 use Rattle.std.specs.List.{list_all}
 use Rattle.std.proofs.lemmas.Bool.{and_parts}
 use Rattle.std.proofs.lemmas.List.{take-append-drop, length-take-le, drop_at}
 use Rattle.std.proofs.lemmas.List.Folds.{list_all-append}
 use Rattle.std.proofs.lemmas.Option.{same_Some}
-use Rattle.iss_halves.specs.Forms.{Form, Seat}
 use Rattle.iss_model.specs.declared.input.Record.{Record}
 use Rattle.iss_model.specs.declared.limits.TheConstants.{MOST_RECORDS}
 use Rattle.iss_model.specs.declared.state.State.{State}
@@ -20,7 +18,6 @@ use Rattle.iss_image_forms.proofs.HistoryForms.{history_in_form}
 use Rattle.iss_core.specs.Values.{CoreNow, CoreStandsFor, IsNext}
 use Rattle.iss_core.proofs.CoreAgain.{stands_again}
 use Rattle.iss_standing.specs.Standing.{AreHistory, image_after}
-use Rattle.iss_standing.specs.Goings.{AreFirstOf}
 use Rattle.iss_opening.specs.Reading.{core_after, AreNext}
 use Rattle.iss_opening.proofs.Afters.{follows_next, history_next, stands_after}
 use Rattle.iss_standing.proofs.NextRecords.{history_taken}

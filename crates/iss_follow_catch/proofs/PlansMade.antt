@@ -1,6 +1,6 @@
 -- What planning a record comes to on a store: its plan, or why it gets none.
-use Rattle.std.proofs.Common.{◌≡◌, ◌⊎◌, inl, inr, ◌<◌, ◌≤◌, ℕ, max, Bool, true, false, cond, List, [], ◌∷◌, ◌++◌, length, refl, sym, ap, subst, ◌∙◌, arith}
-use Rattle.std.specs.Prelude.{◌≢◌, Some, Result, Ok, Err, IfOk, IfErr, nat_le, nat_lt}
+use Rattle.std.proofs.Common.{◌≡◌, ◌⊎◌, inl, inr, ◌<◌, ◌≤◌, ℕ, max, Bool, true, false, cond, List, length, refl, sym, ap, subst, ◌∙◌, arith}
+use Rattle.std.specs.Prelude.{◌≢◌, Result, Ok, Err, IfOk, IfErr, nat_le, nat_lt}
 use Rattle.std.proofs.lemmas.Bool.Decides.{nat_tests}
 use Rattle.iss_model.specs.declared.decision.Answer.{Answer}
 use Rattle.iss_model.specs.declared.decision.Answer.TheVariants as answer
@@ -11,18 +11,17 @@ use Rattle.iss_model.specs.declared.input.Record.{Record}
 use Rattle.iss_model.specs.declared.limits.TheConstants.{MOST_RECORDS}
 use Rattle.iss_model.specs.rules.Histories.{Follows, history_keeper, history_of}
 use Rattle.iss_model.specs.rules.Judging.{judge}
-use Rattle.iss_model.specs.run.Rooms.{Room, need_of, most_free, fits, unless_spent, judgement_within}
+use Rattle.iss_model.specs.run.Rooms.{need_of, most_free, fits, unless_spent, judgement_within}
 use Rattle.iss_model.specs.state.Cores.{core_keeper}
 use Rattle.iss_agreement.proofs.JudgedAgain.{new_at, not_before}
-use Rattle.iss_core.specs.Values.{CoreNow, IsNext}
+use Rattle.iss_core.specs.Values.{IsNext}
 use Rattle.iss_opening.specs.Values.{StoreNow, room_of}
 use Rattle.iss_opening.specs.Standing.{StandsFor}
 use Rattle.iss_opening.proofs.Afters.{follows_next, next_follows}
 use Rattle.iss_opening.proofs.TakenUp.{judged_itself}
-use Rattle.iss_store.specs.declared.fault.PlanFault.{PlanFault}
 use Rattle.iss_store.specs.declared.fault.PlanFault.TheVariants as plan_fault
 use Rattle.iss_store.specs.Values.{Plan}
-use Rattle.iss_store.specs.Planning.{judged_plan, judged_as, made_on, judged_within, judged_at, most_free_at, Plans, PlansOnBook}
+use Rattle.iss_store.specs.Planning.{judged_plan, judged_as, judged_within, judged_at, most_free_at, Plans, PlansOnBook}
 use Rattle.iss_follow_runs.specs.declared.stop.Stop.{Stop}
 use Rattle.iss_follow_runs.specs.declared.stop.Stop.TheVariants as stop
 use Rattle.iss_follow_catch.specs.Rooms.{room_on, FitsNext}

@@ -1,5 +1,5 @@
 -- Whether what stands in a core stood on a device at one time, and what came after it.
-use Rattle.std.specs.Prelude.{◌≡◌, ◌≤◌, ◌↔◌, ℕ, Bool, true, false, List, [], ◌∷◌, ◌++◌, length, take, drop, slice_index, IsTrue}
+use Rattle.std.specs.Prelude.{◌≡◌, ◌≤◌, ◌↔◌, Bool, true, false, List, [], ◌∷◌, ◌++◌, length, take, drop, slice_index, IsTrue}
 use Rattle.iss_edge.specs.World.{World}
 use Rattle.iss_halves.specs.Forms.{Form, Seat}
 use Rattle.iss_model.specs.declared.input.Record.{Record}

@@ -1,5 +1,5 @@
 -- What catching up with a device did, whatever it ended with. They go by the counts of faults and by what is told, before and after.
-use Rattle.std.specs.Prelude.{◌≡◌, ◌⊎◌, ◌↔◌, ◌≤◌, ℕ, true, List, ◌++◌, length, take, drop, Option, Result, Ok, Err}
+use Rattle.std.specs.Prelude.{◌≡◌, ◌⊎◌, ◌≤◌, ℕ, List, ◌++◌, length, take, drop, Option, Result, Ok, Err}
 use Rattle.iss_edge.specs.declared.status.TheConstants.{DONE}
 use Rattle.iss_edge.specs.World.{World, Told, Faults}
 use Rattle.iss_halves.specs.Forms.{Form, Seat}

@@ -1,5 +1,5 @@
 -- Committing records to a store, one after the other, whichever records it stands for.
-use Rattle.std.specs.Prelude.{◌≡◌, true, false, List, [], ◌∷◌, ◌++◌, Result, Ok, Err, IsErrOf}
+use Rattle.std.specs.Prelude.{◌≡◌, true, false, List, [], ◌++◌, Result, Ok, Err, IsErrOf}
 use Rattle.iss_edge.specs.World.{World, Faults, Later, Rose}
 use Rattle.iss_halves.specs.Forms.{Seat}
 use Rattle.iss_model.specs.declared.decision.Answer.{Answer}

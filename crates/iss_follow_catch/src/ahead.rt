@@ -55,11 +55,7 @@ pub(crate) fn open_ahead<E: Edge>(
 }
 
 /// Reads the records of the device to the last, beside what stands in `other`.
-fn read_beside<E: Edge>(
-    alloc: Global,
-    edge: &mut E,
-    other: &Core,
-) -> Result<Beside, OpenFault>
+fn read_beside<E: Edge>(alloc: Global, edge: &mut E, other: &Core) -> Result<Beside, OpenFault>
     ensures opens { IfErr result (λ fault. Told (Opens (Err fault)) (E.told edge.old) (E.told edge.new)) }
     ensures moments { Told OpensGood (E.told edge.old) (E.told edge.new) }
     ensures reads { IfOk result (λ b.
@@ -81,7 +77,14 @@ fn read_beside<E: Edge>(
                 later,
             });
         };
-        met = passes(alloc, met, &mut later, taken.accepted, reading.core(), other)?;
+        met = passes(
+            alloc,
+            met,
+            &mut later,
+            taken.accepted,
+            reading.core(),
+            other,
+        )?;
     }
 }
 
@@ -107,11 +110,7 @@ fn passes(
 }
 
 /// Keeps a record in form, as each is that was read.
-fn keep_in_form(
-    alloc: Global,
-    later: &mut Vec<Record>,
-    accepted: &Record,
-) -> Result<(), AllocError>
+fn keep_in_form(alloc: Global, later: &mut Vec<Record>, accepted: &Record) -> Result<(), AllocError>
     requires { IsTrue (list_all is_record later.old.items) }
     ensures kept { IsTrue (is_record accepted.now) → OnOk result (later.new.items ≡ later.old.items ++ accepted.now ∷ []) }
     ensures spelled { OnOk result (IsTrue (list_all is_record later.new.items)) }

@@ -1,5 +1,5 @@
 -- Why a database isn't taken for an archive, while the disk is honest.
-use Rattle.std.specs.Prelude.{◌≡◌, ◌≢◌, ◌⊎◌, ◌<◌, ◌^◌, pos, Bool, false, List, [], ◌∷◌, filter, Option, Some, None, Result, Ok, Err, IfOk, IfErr, IfSome, IsSomeAnd, OnOk, IsSome, IsTrue}
+use Rattle.std.specs.Prelude.{◌≡◌, ◌≢◌, ◌⊎◌, ◌<◌, ◌^◌, ℕ, pos, Bool, false, List, [], ◌∷◌, filter, Option, Some, None, Result, Ok, Err, IfOk, IfErr, IfSome, IsSomeAnd, OnOk, IsSome, IsTrue}
 use Rattle.sqlite_disk.specs.Disk.{MoreFaults}
 use Rattle.sqlite.specs.declared.error.Error.{Error}
 use Rattle.sqlite.specs.declared.error.Error.TheVariants.{SqliteFailure}
@@ -13,7 +13,7 @@ use Rattle.iss_archive.specs.declared.post.KeepFault.{KeepFault}
 use Rattle.iss_archive.specs.declared.post.KeepFault.TheVariants as fault
 use Rattle.iss_tables.specs.declared.adding.HeadColumns.{HeadColumns}
 use Rattle.iss_tables.specs.Tables.{head_schema}
-use Rattle.iss_tables.specs.Calls.{IsOurs}
+use Rattle.iss_tables.specs.Calls.{HasNoneAbove, IsOurs}
 use Rattle.iss_tables.specs.Causes.{CanBeOurs, IsDone}
 use Rattle.iss_sql_keeper.specs.Given.{AreHeadColumnsOf}
 use Rattle.iss_sql_keeper.specs.Shown.{IsArchive}
@@ -94,3 +94,29 @@ AsksUnlessUnasked result old new = HasCleanDisk new → IsOurs old → FailsUnas
 -- the columns are those of no head
 abbrev pub IsOddHead : HeadColumns → Type 0
 IsOddHead columns = (head : Head) → AreHeadColumnsOf head columns → head.records < 2 ^ 32 → ⊥
+
+-- if the tables are ours and no posting is above this many, which a column can hold, they weren't taken only if the database couldn't be asked
+abbrev pub CountedUnlessUnasked : ℕ → Result Bool KeepFault → State → State → Type 0
+CountedUnlessUnasked posts result old new =
+    HasCleanDisk new → IsOurs old → posts < 2 ^ 63 → HasNoneAbove (pos posts) old.now.trees → RefusesUnasked result old new
+
+-- if the tables are ours and hold an archive, they weren't taken only if the database couldn't be asked
+abbrev pub TakenUnlessUnasked : Result Bool KeepFault → State → State → Type 0
+TakenUnlessUnasked result old new =
+    HoldsStoredHead old.now.trees → HasCleanDisk new → IsOurs old → IsArchive old.now.trees → RefusesUnasked result old new
+
+-- if the table of the head holds a head or none, a question failed only if the database couldn't be asked
+abbrev pub HeadUnlessUnasked : {T : Type 0} → Result T KeepFault → State → State → Type 0
+HeadUnlessUnasked result old new = HoldsStoredHead old.now.trees → AsksUnlessUnasked result old new
+
+-- if the tables are ours or can become it, and hold an archive, they weren't taken only if the database couldn't be asked
+abbrev pub PreparedUnlessUnasked : Result Bool KeepFault → State → State → Type 0
+PreparedUnlessUnasked result old new = HasCleanDisk new → CanBeOurs old → IsArchiveIn old → RefusesUnasked result old new
+
+-- and a call failed only then
+abbrev pub FailedUnlessUnasked : Result Bool KeepFault → State → State → Type 0
+FailedUnlessUnasked result old new = HasCleanDisk new → CanBeOurs old → IsArchiveIn old → FailsUnasked result old new
+
+-- an open database holds just what was committed
+abbrev pub IsSettled : State → Type 0
+IsSettled s = IsTrue s.is_open → s.now ≡ s.committed

@@ -14,7 +14,7 @@ ghost use Rattle.iss_tables.specs.Queries.{ShowsPostsOf};
 ghost use Rattle.iss_tables.specs.Rows.{asked_for};
 ghost use Rattle.iss_tables.specs.Steps.{IsHeadRow, head_row};
 ghost use Rattle.iss_sql_keeper.specs.Decoded.{archived_in, head_of, posting_shown};
-ghost use Rattle.iss_sql_keeper.specs.Refused.{AsksUnlessUnasked, HoldsStoredHead, IsOddHead, NamesFailure, RefusesUnasked};
+ghost use Rattle.iss_sql_keeper.specs.Refused.{AsksUnlessUnasked, HeadUnlessUnasked, IsOddHead, NamesFailure, RefusesUnasked};
 ghost use Rattle.iss_sql_keeper.specs.Shown.{Holds, HoldsPosts, IsKept, LeavesNothingNew, LeavesSame, Stays, Tells, TellsHead, TellsPosts, TellsSame};
 
 use crate::reading::{self, postings_of};
@@ -48,7 +48,7 @@ fn ask_head<S: Alter>(conn: &mut Connection<S>) -> Result<Option<HeadColumns>, K
     ensures read { IfOk result (λ head. Holds (state S.Store conn.new) (λ trees. IsHeadRow head (head_row (trees 0)))) }
     ensures was { ReadsHead result (state S.Store conn.old) (state S.Store conn.new) }
     ensures done { DoneAsking result (state S.Store conn.old) (state S.Store conn.new) }
-    ensures cause { HoldsStoredHead (state S.Store conn.old).now.trees → AsksUnlessUnasked result (state S.Store conn.old) (state S.Store conn.new) }
+    ensures cause { HeadUnlessUnasked result (state S.Store conn.old) (state S.Store conn.new) }
 {
     if !is_ours(conn.schema()) {
         return Err(KeepFault::Failed);
@@ -79,7 +79,7 @@ pub(crate) fn head_in<S: Alter>(conn: &mut Connection<S>) -> Result<Option<Head>
     ensures read { IfOk result (λ head. Holds (state S.Store conn.new) (λ trees. head ≡ (archived_in trees).head)) }
     ensures was { HasCleanDisk (state S.Store conn.new) → IsOurs (state S.Store conn.old) → IfOk result (λ head. head ≡ (archived_in (state S.Store conn.old).now.trees).head) }
     ensures done { DoneAsking result (state S.Store conn.old) (state S.Store conn.new) }
-    ensures cause { HoldsStoredHead (state S.Store conn.old).now.trees → AsksUnlessUnasked result (state S.Store conn.old) (state S.Store conn.new) }
+    ensures cause { HeadUnlessUnasked result (state S.Store conn.old) (state S.Store conn.new) }
 {
     let columns = ask_head(conn)?;
     read(&columns)

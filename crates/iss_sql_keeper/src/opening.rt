@@ -1,14 +1,13 @@
 //! Making the tables of an archive, and looking whether what is there is one.
 
-ghost use Rattle.std.specs.Prelude.{◌≡◌, ◌≤◌, ◌<◌, ◌^◌, pos, false, None, IfErr, IfOk, IfSome, IsTrue, OnOk};
+ghost use Rattle.std.specs.Prelude.{◌≡◌, ◌≤◌, ◌^◌, pos, false, None, IfErr, IfOk, IfSome, IsTrue, OnOk};
 ghost use Rattle.sqlite.specs.Held.{state};
 ghost use Rattle.sqlite.specs.State.{HasCleanDisk};
 ghost use Rattle.iss_archive.specs.Archived.{posts_in};
-ghost use Rattle.iss_tables.specs.Calls.{HasNoneAbove, IsOurs, MakesTables};
-ghost use Rattle.iss_tables.specs.Causes.{CanBeOurs};
+ghost use Rattle.iss_tables.specs.Calls.{HasNoneAbove, MakesTables};
 ghost use Rattle.iss_sql_keeper.specs.Opened.{HoldsOn};
-ghost use Rattle.iss_sql_keeper.specs.Refused.{AsksUnlessUnasked, FailsUnasked, HasMade, HoldsStoredHead, IsArchiveIn, MakesUnlessUnasked, RefusesUnasked};
-ghost use Rattle.iss_sql_keeper.specs.Shown.{Holds, IsArchive, IsKept, Stays};
+ghost use Rattle.iss_sql_keeper.specs.Refused.{AsksUnlessUnasked, CountedUnlessUnasked, FailedUnlessUnasked, HasMade, HeadUnlessUnasked, IsSettled, MakesUnlessUnasked, PreparedUnlessUnasked, TakenUnlessUnasked};
+ghost use Rattle.iss_sql_keeper.specs.Shown.{Holds, IsKept, Stays};
 
 use crate::asking::{head_in, is_none_above, told};
 use crate::columns::signed;
@@ -32,7 +31,7 @@ fn is_counted<S: Alter>(conn: &mut Connection<S>, head: &Option<Head>) -> Result
     requires { conn.old.in_transaction ≡ false }
     ensures stays { Stays (state S.Store conn.old) (state S.Store conn.new) }
     ensures found { IfOk result (λ yes. IsTrue yes → Holds (state S.Store conn.new) (HasNoneAbove (pos (posts_in head.now)))) }
-    ensures untaken { HasCleanDisk (state S.Store conn.new) → IsOurs (state S.Store conn.old) → posts_in head.now < 2 ^ 63 → HasNoneAbove (pos (posts_in head.now)) (state S.Store conn.old).now.trees → RefusesUnasked result (state S.Store conn.old) (state S.Store conn.new) }
+    ensures untaken { CountedUnlessUnasked (posts_in head.now) result (state S.Store conn.old) (state S.Store conn.new) }
     ensures failed { AsksUnlessUnasked result (state S.Store conn.old) (state S.Store conn.new) }
 {
     let Some(posts) = posts_of(head) else {
@@ -46,8 +45,8 @@ fn is_archive<S: Alter>(conn: &mut Connection<S>) -> Result<bool, KeepFault>
     requires { conn.old.in_transaction ≡ false }
     ensures kept { IfOk result (λ yes. IsTrue yes → IsKept (state S.Store conn.new)) }
     ensures stays { Stays (state S.Store conn.old) (state S.Store conn.new) }
-    ensures untaken { HoldsStoredHead (state S.Store conn.old).now.trees → HasCleanDisk (state S.Store conn.new) → IsOurs (state S.Store conn.old) → IsArchive (state S.Store conn.old).now.trees → RefusesUnasked result (state S.Store conn.old) (state S.Store conn.new) }
-    ensures failed { HoldsStoredHead (state S.Store conn.old).now.trees → AsksUnlessUnasked result (state S.Store conn.old) (state S.Store conn.new) }
+    ensures untaken { TakenUnlessUnasked result (state S.Store conn.old) (state S.Store conn.new) }
+    ensures failed { HeadUnlessUnasked result (state S.Store conn.old) (state S.Store conn.new) }
 {
     let head = head_in(conn)?;
     is_counted(conn, &head)
@@ -66,7 +65,7 @@ fn make<S: Alter>(conn: &mut Connection<S>) -> Result<(), KeepFault>
 /// Whether no transaction is under way. It fails if one is.
 fn outside<S: Alter>(conn: &Connection<S>) -> Result<(), KeepFault>
     ensures mode { OnOk result ((state S.Store conn.now).in_transaction ≡ false) }
-    ensures settled { OnOk result (IsTrue (state S.Store conn.now).is_open → (state S.Store conn.now).now ≡ (state S.Store conn.now).committed) }
+    ensures settled { OnOk result (IsSettled (state S.Store conn.now)) }
     ensures inside { IfErr result (λ _. IsTrue (state S.Store conn.now).in_transaction) }
 {
     if !conn.is_autocommit() {
@@ -80,7 +79,7 @@ fn make_outside<S: Alter>(conn: &mut Connection<S>) -> Result<(), KeepFault>
     ensures made { MakesTables result (state S.Store conn.old) (state S.Store conn.new) }
     ensures done { HasMade result (state S.Store conn.old) (state S.Store conn.new) }
     ensures mode { OnOk result ((state S.Store conn.new).in_transaction ≡ false) }
-    ensures settled { OnOk result (IsTrue (state S.Store conn.new).is_open → (state S.Store conn.new).now ≡ (state S.Store conn.new).committed) }
+    ensures settled { OnOk result (IsSettled (state S.Store conn.new)) }
     ensures cause { MakesUnlessUnasked result (state S.Store conn.old) (state S.Store conn.new) }
 {
     make(conn)?;
@@ -91,8 +90,8 @@ fn make_outside<S: Alter>(conn: &mut Connection<S>) -> Result<(), KeepFault>
 pub(crate) fn prepare<S: Alter>(conn: &mut Connection<S>) -> Result<bool, KeepFault>
     ensures kept { IfOk result (λ yes. IsTrue yes → IsKept (state S.Store conn.new)) }
     ensures held { IfOk result (λ yes. IsTrue yes → HoldsOn (state S.Store conn.old) (state S.Store conn.new)) }
-    ensures untaken { HasCleanDisk (state S.Store conn.new) → CanBeOurs (state S.Store conn.old) → IsArchiveIn (state S.Store conn.old) → RefusesUnasked result (state S.Store conn.old) (state S.Store conn.new) }
-    ensures failed { HasCleanDisk (state S.Store conn.new) → CanBeOurs (state S.Store conn.old) → IsArchiveIn (state S.Store conn.old) → FailsUnasked result (state S.Store conn.old) (state S.Store conn.new) }
+    ensures untaken { PreparedUnlessUnasked result (state S.Store conn.old) (state S.Store conn.new) }
+    ensures failed { FailedUnlessUnasked result (state S.Store conn.old) (state S.Store conn.new) }
 {
     make_outside(conn)?;
     is_archive(conn)

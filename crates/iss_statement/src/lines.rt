@@ -1,9 +1,8 @@
 //! A statement as lines.
-ghost use Rattle.std.specs.Prelude.{◌≡◌, [], ◌∷◌, ◌++◌, map, codes, decimal, pos, neg_ℤ, ◌+ℤ◌, ◌<ℤ◌, ◌≤ℤ◌, ◌^◌, IsTrue, IfOk, OnOk};
-ghost use Rattle.iss_archive.specs.Archived.{rows_of_user};
+ghost use Rattle.std.specs.Prelude.{◌≡◌, ◌++◌, codes, decimal, pos, neg_ℤ, ◌+ℤ◌, ◌<ℤ◌, ◌≤ℤ◌, ◌^◌, IsTrue, IfOk, OnOk};
 ghost use Rattle.iss_archive.specs.Statable as statable;
 ghost use Rattle.iss_archive.specs.Statement as spec;
-ghost use Rattle.iss_statement.specs.Openings.{GoesOn, rows_to, end_piece};
+ghost use Rattle.iss_statement.specs.Openings.{GoesOn, added_to, end_piece, lines_to, own_line, with_members};
 
 use crate::opening::{day_of, opening_of};
 use iss_amount::{put_decimal, write};
@@ -56,10 +55,8 @@ fn put_rows(
     to: i64,
 ) -> Result<i128, AllocError>
     requires { GoesOn user.now currency balance rows.now }
-    ensures lines { OnOk result (lines.new.items
-        ≡ lines.old.items ++ map (spec.row_line user.now currency) (rows_to to (rows_of_user user.now currency rows.now))) }
-    ensures closing { IfOk result (λ closing. closing
-        ≡ balance +ℤ spec.added_by user.now currency (rows_to to (rows_of_user user.now currency rows.now))) }
+    ensures lines { OnOk result (lines.new.items ≡ lines.old.items ++ lines_to to user.now currency rows.now) }
+    ensures closing { IfOk result (λ closing. closing ≡ balance +ℤ added_to to user.now currency rows.now) }
     ensures low { IfOk result (λ closing. neg_ℤ (pos (2 ^ 63)) <ℤ closing) }
     ensures high { IfOk result (λ closing. closing <ℤ pos (2 ^ 63)) }
 {
@@ -84,8 +81,7 @@ fn put_row(
 ) -> Result<(), AllocError>
     requires low { neg_ℤ (pos (2 ^ 63)) <ℤ statable.signed_amount user.now currency row.now }
     requires high { statable.signed_amount user.now currency row.now <ℤ pos (2 ^ 63) }
-    ensures { OnOk result (lines.new.items
-        ≡ lines.old.items ++ map (spec.row_line user.now currency) (rows_of_user user.now currency (row.now ∷ []))) }
+    ensures { OnOk result (lines.new.items ≡ lines.old.items ++ own_line user.now currency row.now) }
 {
     if !is_of_user(row, user, currency) {
         return Ok(());
@@ -123,9 +119,7 @@ fn put_members(
     amount: &[u8],
     other: &[u8],
 ) -> Result<(), AllocError>
-    ensures { OnOk result (out.new.items
-        ≡ out.old.items ++ (codes "{\"amount\":\"" ++ amount.now) ++ (codes "\",\"at\":" ++ decimal row.now.at)
-        ++ (codes ",\"other\":\"" ++ other.now) ++ (codes "\",\"record\":" ++ decimal row.now.number) ++ end_piece row.now.txn) }
+    ensures { OnOk result (out.new.items ≡ with_members out.old.items row.now amount.now other.now) }
 {
     put_text(out, b"{\"amount\":\"", amount)?;
     put_number(out, b"\",\"at\":", row.at)?;

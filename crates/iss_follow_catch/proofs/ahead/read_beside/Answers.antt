@@ -1,4 +1,4 @@
-use Rattle.std.proofs.Common.{rules, ◌≡◌, true, refl, sym, ap, ◌∙◌}
+use Rattle.std.proofs.Common.{rules, ◌≡◌, refl, sym, ap, ◌∙◌}
 use Rattle.std.specs.Prelude.{Err, ◌↔◌, IsTrue}
 use Rattle.iss_edge.proofs.Tolds.{later_then}
 use Rattle.iss_halves.specs.Forms.{Layout}

@@ -1,4 +1,4 @@
-use Rattle.std.proofs.Common.{rules, ◌≡◌, ◌+◌, ◌<◌, List, [], ◌∷◌, ◌++◌, length, take, drop, Err, sym, ap, subst, ◌∙◌, arith}
+use Rattle.std.proofs.Common.{rules, ◌≡◌, ◌+◌, ◌<◌, List, [], length, take, drop, Err, sym, ap, subst, ◌∙◌, arith}
 use Rattle.iss_edge.specs.World.{Told}
 use Rattle.iss_edge.proofs.Tolds.{later_self, later_then, told_self}
 use Rattle.iss_halves.specs.Forms.{Form}
@@ -25,7 +25,7 @@ returns-in_err-store-clause-ran g c =
     rw failed (
     told_stopped c.args.opened c.records.store (take i rs) rs (drop (i + 1) rs) c.record-item.result (g.T.Edge.told c.args.to.now) (g.T.Edge.told c.records.to) (g.T.Edge.told c.commit_one.new.to)
     (cut_next rs i c.record-item.result within c.record-item.is) c.records.invariant.takes c.records.invariant.lasts c.commit_one.ensures.part c.in_err-store.field-0.0 c.in_err-store.ensures.stops
-    (unplanned_so c.in_err-store.field-0.0 (c.commit_one.new.to ≡ c.records.to) (g.T.Edge.told c.commit_one.new.to ≡ g.T.Edge.told c.records.to) (ap g.T.Edge.told) c.in_err-store.ensures.unplanned)
+    (unplanned_so (Unit {0}) (Unit {0}) c.in_err-store.field-0.0 (c.commit_one.new.to ≡ c.records.to) (g.T.Edge.told c.commit_one.new.to ≡ g.T.Edge.told c.records.to) (ap g.T.Edge.told) c.in_err-store.ensures.unplanned)
     )
 
 pub returns-in_err-store-clause-part : goal.returns-in_err-store-clause-part

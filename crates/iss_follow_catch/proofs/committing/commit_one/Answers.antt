@@ -1,6 +1,6 @@
 use Rattle.std.proofs.Common.{rules, ◌≡◌, List, [], ◌∷◌, Err, subst}
 use Rattle.iss_edge.specs.World.{Told}
-use Rattle.iss_edge.proofs.Tolds.{later_self, told_map, told_self}
+use Rattle.iss_edge.proofs.Tolds.{told_map, told_self}
 use Rattle.iss_model.specs.declared.input.Record.{Record}
 use Rattle.iss_opening.specs.Values.{StoreNow}
 use Rattle.iss_opening.specs.Standing.{StandsFor}

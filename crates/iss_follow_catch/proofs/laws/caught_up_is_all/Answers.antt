@@ -1,6 +1,4 @@
 use Rattle.iss_follow_catch.proofs.Pasts.{caught_up_is_all}
-use Rattle.iss_follow_catch.proofs.Beside.{told_ahead}
-use Rattle.iss_follow_catch.proofs.Commits.{all_committed}
 use Rattle.iss_follow_catch.proofs.laws.caught_up_is_all.Goals as goal
 
 pub returns : goal.returns
