@@ -1,5 +1,5 @@
 -- The days that a statement covers.
-use Rattle.std.specs.Prelude.{◌≡◌, ℤ, Bool, not, false, List, [], ◌∷◌}
+use Rattle.std.specs.Prelude.{◌≡◌, ℤ, Bool, not, false, List, [], ◌∷◌, ℕ, true}
 use Rattle.std.specs.List.{list_all}
 use Rattle.iss_model.specs.declared.currency.Currency.{Currency}
 use Rattle.iss_model.specs.declared.input.Record.{Record}

@@ -1,5 +1,5 @@
 -- Where a statement begins among rows in order, and how it goes on.
-use Rattle.std.specs.Prelude.{◌≡◌, ◌≤◌, ℕ, ℤ, true, not, List, ◌++◌, length, filter, drop, codes, Option, Some, None}
+use Rattle.std.specs.Prelude.{◌≡◌, ◌≤◌, ℕ, ℤ, true, not, List, [], ◌∷◌, ◌++◌, length, filter, drop, codes, Option, Some, None, map, decimal}
 use Rattle.iss_model.specs.declared.currency.Currency.{Currency}
 use Rattle.iss_archive.specs.declared.post.PostRow.{PostRow}
 use Rattle.iss_archive.specs.Archived.{rows_of_user}
