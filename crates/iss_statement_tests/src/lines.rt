@@ -48,77 +48,65 @@ fn statement(
     Ok(text)
 }
 
+/// What a statement of the user `u1` or another is over the two postings.
+fn stated(
+    alloc: Global,
+    user: &[u8],
+    currency: Currency,
+    from: i64,
+    to: i64,
+) -> Result<Vec<u8>, Fail> {
+    let owner = Token::new(b"u1").ok_or("no token")?;
+    let asked = Token::new(user).ok_or("no token")?;
+    let txn = Token::new(b"a1").ok_or("no token")?;
+    Ok(statement(alloc, &two_rows(owner, txn), &asked, currency, from, to)?)
+}
+
 #[test]
 fn the_second_day(rt: HostRuntime) -> Result<(), Fail> {
-    let user = Token::new(b"u1").ok_or("no token")?;
-    let txn = Token::new(b"a1").ok_or("no token")?;
-    let text = statement(rt.alloc(), &two_rows(user, txn), &user, Currency::Usd, 1, 1)?;
-    assert!(rt;
-        text.as_slice()
-            == b"{\"balance\":\"60.00\",\"line\":\"opening\"}\n\
+    let text = stated(rt.alloc(), b"u1", Currency::Usd, 1, 1)?;
+    let expected = b"{\"balance\":\"60.00\",\"line\":\"opening\"}\n\
         {\"amount\":\"-60.00\",\"at\":86400000,\"other\":\"network\",\"record\":6,\"txn\":\"a1\"}\n\
-        {\"balance\":\"0.00\",\"line\":\"closing\"}\n"
-    );
+        {\"balance\":\"0.00\",\"line\":\"closing\"}\n";
+    assert!(rt; text.as_slice() == expected.as_slice());
     Ok(())
 }
 
 #[test]
 fn both_days(rt: HostRuntime) -> Result<(), Fail> {
-    let user = Token::new(b"u1").ok_or("no token")?;
-    let txn = Token::new(b"a1").ok_or("no token")?;
-    let text = statement(rt.alloc(), &two_rows(user, txn), &user, Currency::Usd, 0, 1)?;
-    assert!(rt;
-        text.as_slice()
-            == b"{\"balance\":\"0.00\",\"line\":\"opening\"}\n\
+    let text = stated(rt.alloc(), b"u1", Currency::Usd, 0, 1)?;
+    let expected = b"{\"balance\":\"0.00\",\"line\":\"opening\"}\n\
         {\"amount\":\"60.00\",\"at\":0,\"other\":\"gateway\",\"record\":5}\n\
         {\"amount\":\"-60.00\",\"at\":86400000,\"other\":\"network\",\"record\":6,\"txn\":\"a1\"}\n\
-        {\"balance\":\"0.00\",\"line\":\"closing\"}\n"
-    );
+        {\"balance\":\"0.00\",\"line\":\"closing\"}\n";
+    assert!(rt; text.as_slice() == expected.as_slice());
     Ok(())
 }
 
 #[test]
-fn the_first_day_alone(rt: HostRuntime) -> Result<(), Fail> {
-    let user = Token::new(b"u1").ok_or("no token")?;
-    let txn = Token::new(b"a1").ok_or("no token")?;
-    let text = statement(rt.alloc(), &two_rows(user, txn), &user, Currency::Usd, 0, 0)?;
-    assert!(rt;
-        text.as_slice()
-            == b"{\"balance\":\"0.00\",\"line\":\"opening\"}\n\
+fn the_first_day(rt: HostRuntime) -> Result<(), Fail> {
+    let text = stated(rt.alloc(), b"u1", Currency::Usd, 0, 0)?;
+    let expected = b"{\"balance\":\"0.00\",\"line\":\"opening\"}\n\
         {\"amount\":\"60.00\",\"at\":0,\"other\":\"gateway\",\"record\":5}\n\
-        {\"balance\":\"60.00\",\"line\":\"closing\"}\n"
-    );
+        {\"balance\":\"60.00\",\"line\":\"closing\"}\n";
+    assert!(rt; text.as_slice() == expected.as_slice());
     Ok(())
 }
 
 #[test]
 fn a_user_with_no_row(rt: HostRuntime) -> Result<(), Fail> {
-    let user = Token::new(b"u1").ok_or("no token")?;
-    let stranger = Token::new(b"u9").ok_or("no token")?;
-    let txn = Token::new(b"a1").ok_or("no token")?;
-    let text = statement(
-        rt.alloc(),
-        &two_rows(user, txn),
-        &stranger,
-        Currency::Usd,
-        1,
-        1,
-    )?;
-    assert!(rt;
-        text.as_slice()
-            == b"{\"balance\":\"0.00\",\"line\":\"opening\"}\n{\"balance\":\"0.00\",\"line\":\"closing\"}\n"
-    );
+    let text = stated(rt.alloc(), b"u9", Currency::Usd, 1, 1)?;
+    let expected =
+        b"{\"balance\":\"0.00\",\"line\":\"opening\"}\n{\"balance\":\"0.00\",\"line\":\"closing\"}\n";
+    assert!(rt; text.as_slice() == expected.as_slice());
     Ok(())
 }
 
 #[test]
 fn a_currency_with_no_row(rt: HostRuntime) -> Result<(), Fail> {
-    let user = Token::new(b"u1").ok_or("no token")?;
-    let txn = Token::new(b"a1").ok_or("no token")?;
-    let text = statement(rt.alloc(), &two_rows(user, txn), &user, Currency::Jpy, 1, 1)?;
-    assert!(rt;
-        text.as_slice()
-            == b"{\"balance\":\"0\",\"line\":\"opening\"}\n{\"balance\":\"0\",\"line\":\"closing\"}\n"
-    );
+    let text = stated(rt.alloc(), b"u1", Currency::Jpy, 1, 1)?;
+    let expected =
+        b"{\"balance\":\"0\",\"line\":\"opening\"}\n{\"balance\":\"0\",\"line\":\"closing\"}\n";
+    assert!(rt; text.as_slice() == expected.as_slice());
     Ok(())
 }

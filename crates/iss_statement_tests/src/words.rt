@@ -53,7 +53,7 @@ fn words_are_taken_or_refused(rt: HostRuntime) -> Result<(), Fail> {
 fn days_are_counted_from_1970(rt: HostRuntime) -> Result<(), Fail> {
     let texts = owned(rt.alloc(), &["u1", "EUR", "2000-03-01", "9998-12-31"])?;
     let asked = statement_words(texts.as_slice()).ok_or("no words")?;
-    assert!(rt; asked.user.text() == b"u1");
+    assert!(rt; asked.user.text() == b"u1".as_slice());
     assert!(rt; asked.currency == Currency::Eur);
     assert_eq!(rt; asked.from, 11_017);
     assert_eq!(rt; asked.to, 2_932_531);

@@ -9,34 +9,30 @@ use std::test::Fail;
 const POSTINGS: u32 = 100_000;
 
 /// How many milliseconds lie between two, so that they fill 365 days.
-const STEP: u64 = 315_360;
+const STEP: u64 = 315_000;
 
 /// The posting of this number: each fourth is a load of 4.00, and the others are clearings of 1.00.
 fn posting(number: u32, user: Token) -> PostRow {
     let own = Account::User(user, Currency::Usd);
-    let is_load = number % 4 == 0;
+    let (from, to, amount) = if number % 4 == 0 {
+        (Account::Programme(Currency::Usd), own, 400)
+    } else {
+        (own, Account::Network(Currency::Usd), 100)
+    };
     PostRow {
-        seq: u64::from(number) + 1,
-        number: number + 1,
+        seq: u64::from(number),
+        number,
         at: STEP * u64::from(number),
-        from: if is_load {
-            Account::Programme(Currency::Usd)
-        } else {
-            own
-        },
-        to: if is_load {
-            own
-        } else {
-            Account::Network(Currency::Usd)
-        },
-        amount: if is_load { 400 } else { 100 },
+        from,
+        to,
+        amount,
         txn: Some(user),
     }
 }
 
 fn year(alloc: Global, user: Token) -> Result<Vec<PostRow>, AllocError> {
     let mut rows = Vec::new(alloc);
-    for number in 0..POSTINGS {
+    for number in 1..=POSTINGS {
         rows.push(posting(number, user))?;
     }
     Ok(rows)
@@ -51,9 +47,11 @@ fn a_year_of_postings(rt: HostRuntime) -> Result<(), Fail> {
     }
     let lines = statement_lines(rt.alloc(), rows.as_slice(), &user, Currency::Usd, 0, 364)?;
     assert_eq!(rt; lines.len(), 100_002);
-    assert!(rt; lines[0].as_slice() == b"{\"balance\":\"0.00\",\"line\":\"opening\"}\n");
-    assert!(rt; lines[100_001].as_slice() == b"{\"balance\":\"25000.00\",\"line\":\"closing\"}\n");
+    assert!(rt; lines[0].as_slice() == b"{\"balance\":\"0.00\",\"line\":\"opening\"}\n".as_slice());
+    assert!(rt;
+        lines[100_001].as_slice() == b"{\"balance\":\"25000.00\",\"line\":\"closing\"}\n".as_slice()
+    );
     let last = statement_lines(rt.alloc(), rows.as_slice(), &user, Currency::Usd, 364, 364)?;
-    assert_eq!(rt; last.len(), 275);
+    assert_eq!(rt; last.len(), 163);
     Ok(())
 }
