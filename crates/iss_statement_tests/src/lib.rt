@@ -1,4 +1,4 @@
-//! Tests of statements: worked lines and words, and a year of many postings.
+//! Tests of statements: worked lines and words.
 //!
 //! It may cite `iss_edge`, `iss_model`, `iss_archive` and `iss_statement`.
 //! Nothing may cite it.
@@ -8,5 +8,3 @@
 mod lines;
 #[cfg(test)]
 mod words;
-#[cfg(test)]
-mod year;
