@@ -11,7 +11,7 @@ follow=crates/issuer_follow/out/issuer_follow
 
 from=$room/from
 to=$room/to
-lines=2000
+lines=240
 
 # follows WORDS..: runs the program of a second device, and keeps its status.
 follows() {
@@ -52,7 +52,7 @@ filled() {
     ended 'filling' 0 ''
 }
 
-# is_kept: the first device's file is as it was.
+# is_kept WHAT: the first device's file is as it was.
 is_kept() {
     cmp -s "$from" "$room/kept" || fail "$1: the first device was changed"
 }
@@ -81,7 +81,7 @@ issue format "$room/other" 900000 6
 follows catch "$from" "$room/other"
 is_done 'catching up on a device of another instance' 10
 
-# some WHAT..: runs the program of a second device, and kills it at some moment of the time that it takes.
+# killed WORDS..: runs the program of a second device, and kills it at some moment of the time that it takes.
 killed() {
     "$follow" "$@" >"$room/out" 2>"$room/said" &
     child=$!
@@ -102,7 +102,7 @@ took() {
 
 rm -f "$to"
 took copy "$from" "$to" 900000
-for ((i = 0; i < 60; i++)); do
+for ((i = 0; i < 40; i++)); do
     rm -f "$to"
     killed copy "$from" "$to" 900000
     is_kept 'a copy that was killed'
@@ -128,7 +128,7 @@ cp "$from" "$room/kept"
 cp "$room/part" "$to"
 took catch "$from" "$to"
 is_same "$whole"
-for ((i = 0; i < 60; i++)); do
+for ((i = 0; i < 20; i++)); do
     cp "$room/part" "$to"
     last=$part
     for ((j = 0; j < 3; j++)); do
