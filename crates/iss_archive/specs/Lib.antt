@@ -4,3 +4,4 @@ pub mod Postings
 pub mod Archiving
 pub mod Runs
 pub mod Statement
+pub mod Steps

@@ -28,7 +28,7 @@ pub enum ArchiveFault {
 const MOST_POSTS: u64 = 9_223_372_036_854_775_807;
 
 /// How many records are archived.
-fn records_in(head: &Option<Head>) -> u32
+pub(crate) fn records_in(head: &Option<Head>) -> u32
     ensures { result ≡ records_in head.now }
 {
     match head {
@@ -84,7 +84,7 @@ pub fn postings(
 }
 
 /// Whether the head is of another device than this one, or of more records.
-fn is_strange(head: &Option<Head>, instance: u64, count: u32) -> bool
+pub(crate) fn is_strange(head: &Option<Head>, instance: u64, count: u32) -> bool
     ensures value { result ≡ is_foreign instance count head.now }
     ensures same { result ≡ false → IfSome head.now (λ held. held.instance ≡ instance) }
     ensures fewer { result ≡ false → records_in head.now ≤ count }
@@ -96,7 +96,7 @@ fn is_strange(head: &Option<Head>, instance: u64, count: u32) -> bool
 }
 
 /// Adds a record's postings to what the keeper holds, whose head is `head`. It returns the new head.
-fn add_record<K: Keeper>(
+pub(crate) fn add_record<K: Keeper>(
     alloc: Global,
     keeper: &mut K,
     head: &Option<Head>,
@@ -109,6 +109,7 @@ fn add_record<K: Keeper>(
     requires plain { list_all has_plain_post stepped.now.entries.items ≡ true }
     ensures added { OnOk result (Told (AddsRecord instance stepped.now) (K.Keeper.told keeper.old) (K.Keeper.told keeper.new)) }
     ensures head { IfOk result (λ next. next ≡ head_next instance head.now stepped.now) }
+    ensures few { IfOk result (λ next. next.posts < 2 ^ 63) }
     ensures failed { OnErr result (Told (MayAddRecord instance stepped.now) (K.Keeper.told keeper.old) (K.Keeper.told keeper.new)) }
     ensures stop { LeavesNext instance stepped.now (K.Keeper.told keeper.old) (K.Keeper.left keeper.old) (K.Keeper.left keeper.new) }
     ensures later { K.Keeper.faults keeper.old ≤ K.Keeper.faults keeper.new }

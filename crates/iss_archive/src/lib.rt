@@ -13,6 +13,7 @@ mod map_keeper;
 mod post;
 mod source;
 mod stating;
+mod stepping;
 
 pub use archiving::{ArchiveFault, keep_up, postings};
 pub use keeper::Keeper;
@@ -21,3 +22,4 @@ pub use map_keeper::MapKeeper;
 pub use post::{Head, KeepFault, PostRow};
 pub use source::{Source, Stepped};
 pub use stating::{added, is_of_user, is_statable, is_users, signed_amount};
+pub use stepping::{are_next, keep_steps};
