@@ -1,8 +1,8 @@
-mod Rows
+pub mod Rows
 mod Sums
 mod Order
 mod Steps
 mod LineTexts
-mod Closing
+pub mod Closing
 mod DateLaws
 mod Counts
