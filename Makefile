@@ -3,11 +3,12 @@ program := crates/iss_cli/out/iss_cli
 first := crates/iss_cli/stdin
 gateway := crates/issuer_gateway/out/issuer_gateway
 follow := crates/issuer_follow/out/issuer_follow
+archive := crates/issuer_archive/out/issuer_archive
 sources := crates.txt HANDLES \
     $(shell find crates -name out -prune -o \( -name '*.rt' -o -name '*.antt' \) -print)
 
 .DEFAULT_GOAL := issuer
-.PHONY: help issuer gateway follow run crate check try test checks mutants bench twins map doctor
+.PHONY: help issuer gateway follow archive run crate check try test checks mutants bench twins map doctor
 
 help: ## lists these targets
 	@awk -F ':.*## ' '/^[a-z]+:.*## / { printf "make %-8s %s\n", $$1, $$2 }' Makefile
@@ -40,6 +41,15 @@ build/issuer_follow: $(follow)
 $(follow): $(sources)
 	cd crates/issuer_follow && rm -f out/issuer_follow && { rt run || [ -x out/issuer_follow ]; }
 	touch $(follow)
+
+archive: build/issuer_archive ## proves the program of the archive likewise, and leaves it at build/issuer_archive
+
+build/issuer_archive: $(archive)
+	install -D -m 755 $(archive) build/issuer_archive
+
+$(archive): $(sources)
+	cd crates/issuer_archive && rm -f out/issuer_archive && { rt run || [ -x out/issuer_archive ]; }
+	touch $(archive)
 
 run: ## shows the replies to the first example: at once if the proved program is up to date, else, in minutes, by a build that is not proved
 	@if $(MAKE) -qs $(program); then \

@@ -1,0 +1,2 @@
+-- How far the archive goes.
+SELECT instance, records, posts FROM head;
