@@ -8,3 +8,5 @@
 mod lines;
 #[cfg(test)]
 mod words;
+#[cfg(test)]
+mod year;
