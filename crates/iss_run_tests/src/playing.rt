@@ -1,8 +1,8 @@
 //! Runs over an outside in memory, by what they begin with.
-ghost use Rattle.std.specs.Prelude.{◌≡◌, ◌∷◌, ◌&&◌, List, true, not, IsTrue, IfOk};
+ghost use Rattle.std.specs.Prelude.{◌≡◌, ◌&&◌, true, not, IsTrue, IfOk};
 ghost use Rattle.iss_edge.specs.Channels.{is_among};
-ghost use Rattle.iss_edge.specs.Memory.{are_clients_apart, are_to_come, is_client_number};
-ghost use Rattle.iss_edge.specs.declared.outside.Script.{Script};
+ghost use Rattle.iss_edge.specs.Memory.{are_clients_apart, is_client_number};
+ghost use Rattle.iss_run_tests.specs.Apart.{Admits};
 
 use iss_edge::{Bytes, Channel, Edge, MemoryEdge, Script};
 use iss_top::run;
@@ -208,8 +208,7 @@ fn are_apart(alloc: Global, script: &[Script]) -> Result<bool, AllocError>
 
 /// Whether a client comes on a channel that isn't known yet, and then is. All else may come.
 fn comes_apart(known: &mut Vec<u32>, item: &Script) -> Result<bool, AllocError>
-    ensures { IfOk result (λ apart. IsTrue apart → (rest : List Script)
-        → are_to_come known.old.items (item.now ∷ rest) ≡ are_to_come known.new.items rest) }
+    ensures { IfOk result (λ apart. IsTrue apart → Admits known.old.items item.now known.new.items) }
 {
     match item {
         Script::Client(ch) => {
