@@ -14,7 +14,7 @@ import tempfile
 from concurrent.futures import ThreadPoolExecutor
 
 ROOT = pathlib.Path(__file__).resolve().parent.parent
-MOST_TRIED, MOST_CRATES = 45, 12
+MOST_TRIED, MOST_CRATES = 45, 14
 
 
 def edits(crate):

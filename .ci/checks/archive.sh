@@ -80,7 +80,6 @@ stated "$room/db" "$room/yen" u1 JPY 2026-03-03 2026-03-04
 rows "$room/db" | cmp -s - "$room/rows" || fail 'statements: they changed the archive'
 
 # A year of 100,000 postings.
-
 {
     grep '^CREATE' "$examples/example.sql"
     cat <<'END'
@@ -97,6 +96,14 @@ ended 'a year of postings' 0 ''
 [ "$(wc -l <"$room/out")" = 100002 ] || fail "a year of postings: $(wc -l <"$room/out") lines"
 sqlite3 "$room/year.db" "SELECT sum(iif(to_kind = 4, amount, -amount)) FROM post" | python3 .ci/archive.py closing "$room/out" || fail 'a year of postings: the closing balance differs'
 
+# No row of it takes more instructions than this, all else that a run does among them.
+most=15000
+if command -v valgrind >/dev/null; then
+    took=$(valgrind --tool=callgrind --callgrind-out-file=/dev/null "$archive" statement "$room/year.db" u1 USD 2025-01-01 2025-12-31 2>&1 >/dev/null |
+        awk '/Collected/ { printf "%d", $4 / 100000 }')
+    [ "$took" -gt 0 ] && [ "$took" -le "$most" ] || fail "a year of postings: $took instructions a row, not $most at most"
+fi
+
 # An archive that sqlite3 made, of the first seven records.
 sed '/VALUES (1, 7, 13, 7)/s/13, 7/7, 3/; /INSERT INTO post VALUES ([4-7],/d' "$examples/example.sql" | sqlite3 "$room/lags.db"
 archived "$room/device" "$room/lags.db" '{"posts":7,"records":13}' 'an archive that lags'
@@ -109,7 +116,7 @@ refused() {
     "$archive" archive "$3" "$4" </dev/null >"$room/out" 2>"$room/said" || status=$?
     ended "$5" "$1" "issuer_archive: $2"
     wrote "$5" /dev/null
-    rows "$4" 2>/dev/null | cmp -s - "$room/kept" || fail "$5: it changed the rows"
+    { rows "$4" 2>/dev/null || true; } | cmp -s - "$room/kept" || fail "$5: it changed the rows"
 }
 
 issue format "$room/other" 100000 8
