@@ -5,3 +5,5 @@ pub mod LeastObject
 pub mod ObjectLemmas
 pub mod ValuesInForm
 pub mod Views
+pub mod PlainTexts
+pub mod PlainRead

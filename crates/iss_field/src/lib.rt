@@ -15,6 +15,7 @@ mod name;
 mod numbers;
 mod object;
 mod offsets;
+mod plain;
 mod words;
 
 pub use amounts::{AmountForm, LimitForm};

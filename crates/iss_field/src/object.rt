@@ -6,6 +6,7 @@ ghost use Rattle.iss_field.specs.Objects.{object_of, if_object};
 ghost use Rattle.iss_field.specs.Seen.{seen, fits, json_text};
 
 use crate::fitting::is_fit_object;
+use crate::plain::plain_members;
 use json::{Error, Reader, Scratch, Value};
 use std::alloc::{AllocError, Global};
 
@@ -81,6 +82,9 @@ fn value_of_text<'a>(
     ensures never_too_long { result ≢ Err Error.TooLong }
     ensures never_duplicate { result ≢ Err Error.DuplicateKey }
 {
+    if let Some(members) = plain_members(alloc, text)? {
+        return Ok(Value::Object(members));
+    }
     let mut reader = Reader::new(text, scratch)?;
     let value = Value::read(alloc, &mut reader, MAX_DEPTH)?;
     if reader.next().is_some() {

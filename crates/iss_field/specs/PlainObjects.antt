@@ -1,0 +1,46 @@
+-- Objects as most lines spell them: members of plain texts, whole numbers and flags, with nothing between them.
+use Rattle.std.specs.Prelude.{ℕ, ◌&&◌, ◌∷◌, ◌++◌, [], List, Bool, false, cond, nat_lt, ⊤}
+use Rattle.json.specs.Json.{Json, null, boolean, number, string, array, object, Members, no_members, member}
+use Rattle.json.specs.Print.{IsNumber, quoted, token_text}
+use Rattle.json.specs.Token as token
+use Rattle.iss_field.specs.Plain.{is_plain_byte}
+
+-- the byte is of ASCII, and JSON doesn't escape it
+abbrev pub is_plain_ascii : ℕ → Bool
+is_plain_ascii b = is_plain_byte b && nat_lt b 128
+
+-- how JSON spells a flag
+abbrev pub flag_text : Bool → List ℕ
+flag_text b = token_text (token.boolean b)
+
+-- the value is a text, a number or a flag
+abbrev pub IsPlainValue : Json → Type 0
+IsPlainValue null = ⊥
+IsPlainValue (boolean b) = ⊤
+IsPlainValue (number s) = IsNumber s
+IsPlainValue (string s) = ⊤
+IsPlainValue (array js) = ⊥
+IsPlainValue (object ms) = ⊥
+
+-- how JSON spells such a value
+abbrev pub plain_text : Json → List ℕ
+plain_text null = []
+plain_text (boolean b) = flag_text b
+plain_text (number s) = s
+plain_text (string s) = quoted s
+plain_text (array js) = []
+plain_text (object ms) = []
+
+-- each member's value is such a one
+abbrev pub ArePlain : Members → Type 0
+ArePlain no_members = ⊤
+ArePlain (member name value ms) = IsPlainValue value × ArePlain ms
+
+-- the byte before a member: a brace before the first, and a comma before the others
+abbrev pub opener : Bool → ℕ
+opener first = cond first 123 44
+
+-- these members, each after the byte before it
+abbrev pub spelled : Bool → Members → List ℕ
+spelled first no_members = []
+spelled first (member name value ms) = opener first ∷ (quoted name ++ (58 ∷ (plain_text value ++ spelled false ms)))
