@@ -9,6 +9,7 @@ pub mod Controlling
 pub mod NotedSums
 pub mod Putting
 pub mod Noting
+pub mod NotedTable
 pub mod Gathering
 pub mod Listed
 pub mod Restoring

@@ -52,6 +52,12 @@ impl Table {
         ensures noted { OnOk result (controls_in self.new ≡ map (control_after_use groups.now (entry.Usage row.now)) (controls_in self.old)) }
         ensures refused { OnErr result (controls_in self.new ≡ controls_in self.old) }
     {
+        if self.controls.is_empty() {
+            return Ok(());
+        }
+        if let Some(counters) = self.users.get_mut(&row.user) {
+            return counters.note(&mut self.past, &self.controls, groups, row);
+        }
         begin(&mut self.users, alloc, &row.user)?;
         let Some(counters) = self.users.get_mut(&row.user) else {
             unreachable!()
@@ -66,6 +72,9 @@ impl Table {
         requires keyed { IsTable self.now }
         ensures { result ≡ breach_of groups.now (map control_facts (controls_in self.now)) row.now first }
     {
+        if self.controls.is_empty() {
+            return None;
+        }
         let spans = Spans::new(row.at, row.origin);
         let counters = self.counters_of(&row.user);
         let mut next = 0;
