@@ -1,6 +1,7 @@
 -- A hold that takes the place of another of its transaction, and the sum of its user with it.
 use Rattle.std.proofs.Common.{◌≡◌, ℕ, zero, suc, ◌+◌, ◌-◌, ◌<◌, ◌≤◌, ◌^◌, ◌==◌, Bool, true, false, cond, ◌&&◌, List, [], ◌∷◌, set, refl, sym, ap, ap₂, ◌∙◌, subst, arith}
 use Rattle.std.specs.Prelude.{Option, Some, IsSome, slice_get, unwrap_or}
+use Rattle.std.specs.Option.{option_map}
 use Rattle.std.specs.Str.{bytes_eq}
 use Rattle.std.specs.BTreeMap as tree
 use Rattle.std.specs.BTreeMap.{BTreeMap, is_at}
@@ -102,6 +103,18 @@ module _ {hs : List Hold} {sums : BTreeMap (List ℕ × ℕ) ℕ} {i : ℕ} {h k
   pub sum_before : {key : List ℕ × ℕ} {sum : ℕ} → key ≡ (k.txn.user, iso_number k.txn.currency) → sum ≡ sum_in sums key.0 key.1 → sum ≡ before
   sum_before e f = f ∙ ap (λ (q : List ℕ × ℕ). sum_in sums q.0 q.1) e ∙ a.summed k.txn.user (iso_number k.txn.currency)
 
+  pub sum_stands : {key : List ℕ × ℕ} → key ≡ (k.txn.user, iso_number k.txn.currency) → IsSome (tree.get by_user sums key)
+  sum_stands e =
+      subst (λ (q : List ℕ × ℕ). IsSome (tree.get by_user sums q)) (sym e)
+      (subst (λ (t : Txn). IsSome (tree.get by_user sums (t.user, iso_number t.currency))) (sym same_txn) (a.standing i h s.is_there))
+
+  -- what the replaced one holds
+  pub held_there : {whole : ℕ} → option_map whole_of (slice_get hs i) ≡ Some whole → whole ≡ whole_of h
+  held_there e = inside (sym (ap (λ (o : Option Hold). option_map whole_of o) s.is_there) ∙ e)
+    where
+      inside : {m n : ℕ} → Some m ≡ Some n → n ≡ m
+      inside f = cc
+
   pub sum_after : before - whole_of h + whole_of k ≡ after
   sum_after =
       let user = k.txn.user in
@@ -110,10 +123,10 @@ module _ {hs : List Hold} {sums : BTreeMap (List ℕ × ℕ) ℕ} {i : ℕ} {h k
       let as_before : is_of user number k ≡ is_of user number h = ap (λ (t : Txn). bytes_eq t.user user && (iso_number t.currency == number)) same_txn in
       changed_by (is_of user number h) after before (whole_of h) (whole_of k) (sym as_before ∙ own) (total_set user number hs i h k s.is_there as_before) whole_before
 
-  pub summed_after : {new_sums : BTreeMap (List ℕ × ℕ) ℕ} {key : List ℕ × ℕ} {sum whole whole_new : ℕ} → key ≡ (k.txn.user, iso_number k.txn.currency)
-      → tree.Updates by_user sums new_sums key (Some (sum - whole + whole_new)) → sum ≡ sum_in sums key.0 key.1 → whole ≡ whole_of h → whole_new ≡ whole_of k → after < 2 ^ 62
+  pub summed_after : {new_sums : BTreeMap (List ℕ × ℕ) ℕ} {key : List ℕ × ℕ} {whole whole_new : ℕ} → key ≡ (k.txn.user, iso_number k.txn.currency)
+      → tree.Updates by_user sums new_sums key (Some (sum_in sums key.0 key.1 - whole + whole_new)) → whole ≡ whole_of h → whole_new ≡ whole_of k → after < 2 ^ 62
       → AreSummed (set hs i k) new_sums
-  summed_after {new_sums} {key} {sum} {whole} {whole_new} e updates f g j low =
-      summed_set hs sums new_sums i h k (sum - whole + whole_new) a s.is_there same_txn
-      (subst (λ (q : List ℕ × ℕ). tree.Updates by_user sums new_sums q (Some (sum - whole + whole_new))) e updates)
-      ((λ l. sum_before e f l - g l + j l) ∙ sum_after) low
+  summed_after {new_sums} {key} {whole} {whole_new} e updates g j low =
+      summed_set hs sums new_sums i h k (sum_in sums key.0 key.1 - whole + whole_new) a s.is_there same_txn
+      (subst (λ (q : List ℕ × ℕ). tree.Updates by_user sums new_sums q (Some (sum_in sums key.0 key.1 - whole + whole_new))) e updates)
+      ((λ l. sum_before e refl l - g l + j l) ∙ sum_after) low

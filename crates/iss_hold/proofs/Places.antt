@@ -1,6 +1,6 @@
 -- The place of a name, and what stands there.
 use Rattle.std.proofs.Common.{◌≡◌, ℕ, zero, suc, ◌<◌, Bool, true, false, cond, List, [], ◌∷◌, ◌++◌, get_or, map, length, refl, sym, ap, ap₂, ◌∙◌, subst, arith}
-use Rattle.std.proofs.lemmas.Option.{get_or_from_slice_get}
+use Rattle.std.proofs.lemmas.Option.{get_or_from_slice_get, slice_get-get_or}
 use Rattle.std.specs.Prelude.{Option, Some, None, is_some, slice_get}
 use Rattle.std.specs.Option.{option_map}
 use Rattle.std.specs.List.{list_any}
@@ -82,6 +82,10 @@ pub stood_inside : (hs : List Hold) (i : ℕ) (t : TxnNow) → option_map txn_of
 stood_inside [] i t e = cc
 stood_inside (x ∷ hs) zero t e = omega arith
 stood_inside (x ∷ hs) (suc i) t e = let below = stood_inside hs i t e in omega arith
+
+-- a hold stands there
+pub stood : (hs : List Hold) (i : ℕ) (k : Hold) → option_map txn_of_hold (slice_get hs i) ≡ Some (txn_of_hold k) → IsReplaced hs i (get_or hs i k) k
+stood hs i k e = replaced k e (slice_get-get_or hs i k (stood_inside hs i (txn_of_hold k) e))
 
 has_place_by : (name : List ℕ) (h : Hold) (hs : List Hold) (b : Bool) → bytes_eq h.txn.token name ≡ b
     → is_some (place_in name (names hs)) ≡ is_some (txn_named name (map txn_of_hold hs))

@@ -1,5 +1,5 @@
 //! The indexes beside the holds: places by token, sums by user and currency, and expiries in their order.
-ghost use Rattle.std.specs.Prelude.{◌≡◌, ℕ, List, [], ◌∷◌, ◌++◌, Some, None, IsSome, IfOk, OnOk, OnErr};
+ghost use Rattle.std.specs.Prelude.{◌≡◌, ◌≤◌, ◌<◌, ◌+◌, ◌-◌, ◌^◌, ℕ, List, [], ◌∷◌, ◌++◌, Some, None, IsSome, IfOk, OnOk, OnErr};
 ghost use Rattle.std.specs.BTreeMap as tree;
 ghost use Rattle.iss_model.specs.Currencies.{iso_number};
 ghost use Rattle.iss_hold.specs.Indexes.{by_user, by_later};
@@ -26,13 +26,20 @@ pub(crate) fn sum_of(sums: &BTreeMap<(Token, u16), u64>, key: &(Token, u16)) -> 
     sums.get(key).copied().unwrap_or(0)
 }
 
-/// Writes the sum of a user that stands.
-pub(crate) fn set_sum(sums: &mut BTreeMap<(Token, u16), u64>, key: &(Token, u16), sum: u64)
-    requires { IsSome (tree.get by_user sums.old key.now) }
-    ensures { tree.Updates by_user sums.old sums.new key.now (Some sum) }
+/// Changes the sum of a user that stands by what one part of it had and then has.
+pub(crate) fn change_sum(
+    sums: &mut BTreeMap<(Token, u16), u64>,
+    key: &(Token, u16),
+    before: u64,
+    after: u64,
+)
+    requires stands { IsSome (tree.get by_user sums.old key.now) }
+    requires part { before ≤ sum_in sums.old key.now.0 key.now.1 }
+    requires fits { sum_in sums.old key.now.0 key.now.1 - before + after < 2 ^ 64 }
+    ensures { tree.Updates by_user sums.old sums.new key.now (Some (sum_in sums.old key.now.0 key.now.1 - before + after)) }
 {
-    if let Some(place) = sums.get_mut(key) {
-        *place = sum;
+    if let Some(sum) = sums.get_mut(key) {
+        *sum = *sum - before + after;
     }
 }
 

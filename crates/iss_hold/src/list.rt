@@ -1,7 +1,8 @@
 //! Holds in a list that keeps each name once.
-ghost use Rattle.std.specs.Prelude.{◌≡◌, ◌<◌, [], ◌∷◌, ◌++◌, Some, IfOk, OnOk, OnErr, length, set, take, slice_get};
+ghost use Rattle.std.specs.Prelude.{◌≡◌, ◌<◌, ◌^◌, [], ◌∷◌, ◌++◌, Some, IfOk, OnOk, OnErr, length, set, take, slice_get};
 ghost use Rattle.std.specs.Option.{option_map};
-ghost use Rattle.iss_hold.specs.Holdings.{begun};
+ghost use Rattle.iss_hold.specs.declared.hold.Hold.{Hold};
+ghost use Rattle.iss_hold.specs.Holdings.{begun, whole_of};
 ghost use Rattle.iss_hold.specs.Named.{hold_in, IsNamed, IsGrown};
 
 use crate::hold::Hold;
@@ -84,6 +85,16 @@ impl HoldList {
         ensures { slice_get self.now place ≡ Some result }
     {
         hold_of(&self.names, &self.rows[place])
+    }
+
+    /// All that the hold at a place holds, in minor units.
+    pub(crate) fn whole_at(&self, place: usize) -> u64
+        requires there { place < length self.now }
+        requires fits { (hold : Hold) → slice_get self.now place ≡ Some hold → whole_of hold < 2 ^ 64 }
+        ensures { option_map whole_of (slice_get self.now place) ≡ Some result }
+    {
+        let row = &self.rows[place];
+        row.g + row.p + row.s
     }
 
     /// Adds the hold of a transaction that begins. If an allocation fails, all stays as it was.

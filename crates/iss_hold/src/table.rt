@@ -11,7 +11,7 @@ ghost use Rattle.iss_hold.specs.Indexes.{total_of, IsAt, IsIndexed};
 ghost use Rattle.iss_hold.specs.Restoring.{hold_with, live_with};
 
 use crate::hold::Hold;
-use crate::indexes::{begin_sum, enter, place_after, set_sum, sum_of, user_key};
+use crate::indexes::{begin_sum, change_sum, enter, place_after, user_key};
 use crate::list::HoldList;
 use iss_index::Names;
 use iss_model::{Token, Txn, TxnSums};
@@ -51,8 +51,8 @@ impl Table {
         ensures put { self.new.holds ≡ set self.old.holds place hold }
     {
         let user = user_key(&hold.txn.user, hold.txn.currency);
-        let sum = sum_of(&self.sums, &user) - self.holds.at(place).whole() + hold.whole();
-        set_sum(&mut self.sums, &user, sum);
+        let before = self.holds.whole_at(place);
+        change_sum(&mut self.sums, &user, before, hold.whole());
         self.holds.put(place, &hold);
     }
 
