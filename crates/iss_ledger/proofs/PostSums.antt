@@ -1,7 +1,7 @@
 -- The balances after a post, in its two steps.
-use Rattle.std.proofs.Common.{◌≡◌, ℕ, ◌^◌, ℤ, pos, neg_ℤ, ◌+ℤ◌, ◌<◌, Bool, true, false, cond, List, refl, sym, ap, ap₂, ◌∙◌, subst, arith}
+use Rattle.std.proofs.Common.{◌≡◌, ℕ, ◌^◌, ℤ, pos, neg_ℤ, ◌+ℤ◌, ◌-ℤ◌, ◌<◌, Bool, true, false, cond, List, refl, sym, ap, ap₂, ◌∙◌, subst, arith}
 use Rattle.std.proofs.lemmas.Int.{ints}
-use Rattle.std.specs.Prelude.{Result, Ok, Err, OnOk, OnErr, is_err, Option, Some, unwrap_or}
+use Rattle.std.specs.Prelude.{Option, Some, None, is_some, unwrap_or}
 use Rattle.std.specs.Str.{bytes_eq}
 use Rattle.std.specs.Ordering.{nat_cmp, eq_by_cmp}
 use Rattle.std.specs.Cmp.Lexicographic.{slice_cmp, nat_list_cmp_total}
@@ -13,8 +13,8 @@ use Rattle.iss_model.proofs.Names.{one_name, its_name}
 use Rattle.iss_model.proofs.KeptSums.{kept_at-after_change}
 use Rattle.iss_model.specs.state.Kept.{IsSmall, AreSmall}
 use Rattle.iss_ledger.specs.Posts.{after_post, moved_amount}
-use Rattle.iss_ledger.proofs.TreeSums.{put_twice, put_back}
-use Rattle.iss_ledger.specs.Trees.{with_sum}
+use Rattle.iss_ledger.proofs.TreeSums.{put_twice, put_out, put_same}
+use Rattle.iss_ledger.specs.Trees.{taken_back}
 
 -- a change of a sum at a key
 abbrev pub by : List ℕ → ℤ → Change
@@ -121,25 +121,34 @@ pub credit_small : (m : Kept) (from to : Account) (amount : ℕ) (credited : Lis
 credit_small m from to amount credited more to_is more_is h k =
     subst (λ (z : ℤ). IsSmall z) (sym (ap₂ (λ (key : List ℕ) (z : ℤ). kept_at m key +ℤ z) to_is more_is)) (first_small m from to amount h k)
 
--- what was put back after a first step
-pub undone : (m first second last : Kept) (key other : List ℕ) (more : ℤ) (before : Option ℤ) → first ≡ after_change m (by key more) → second ≡ first
-    → before ≡ map.get m key → other ≡ key → last ≡ with_sum second other before → last ≡ m
-undone m first second last key other more before e f g k h =
-    h ∙ ap (λ (sums : Kept). with_sum sums other before) (f ∙ e)
-    ∙ ap₂ (λ (q : List ℕ) (o : Option ℤ). with_sum (after_change m (by key more)) q o) k g
-    ∙ put_back m key (kept_at m key +ℤ more)
+more_and_less : (z a : ℤ) → z +ℤ a +ℤ (pos 0 -ℤ a) ≡ z
+more_and_less z a = omega (arith, ints)
 
-pub on_err : {T E : Type 0} (r : Result T E) {P Q : Type 0} → (P → Q) → OnErr r P → OnErr r Q
-on_err (Ok x) f h = tt
-on_err (Err e) f h = f h
+-- what was added at a key is taken back
+pub added_back : (m : Kept) (key : List ℕ) (more : ℤ) (o : Option ℤ) → map.get m key ≡ o → taken_back (after_change m (by key more)) key more (is_some o) ≡ m
+added_back m key more None e = put_out m key (kept_at m key +ℤ more) e
+added_back m key more (Some sum) e =
+    changed_twice m key more (pos 0 -ℤ more)
+    ∙ ap (λ (z : ℤ). map.insert m key z) (more_and_less (kept_at m key) more ∙ ap (λ (o : Option ℤ). unwrap_or o (pos 0)) e)
+    ∙ put_same m key sum e
 
-pub on_ok : {T E : Type 0} (r : Result T E) {P Q : Type 0} → (P → Q) → OnOk r P → OnOk r Q
-on_ok (Ok x) f h = f h
-on_ok (Err e) f h = tt
+-- what was taken back after a first step
+module _ (m first second : Kept) (key other : List ℕ) (more : ℤ)
+    (first_is : first ≡ after_change m (by key more)) (same : second ≡ first) (one : other ≡ key) where
+  pub undone : (last : Kept) (stood : Bool) → stood ≡ is_some (map.get m key) → last ≡ taken_back second other more stood → last ≡ m
+  undone last stood e f =
+      f ∙ ap (λ (sums : Kept). taken_back sums other more stood) (same ∙ first_is)
+      ∙ ap₂ (λ (q : List ℕ) (b : Bool). taken_back (after_change m (by key more)) q more b) one e
+      ∙ added_back m key more (map.get m key) refl
 
-pub if_err : {T E : Type 0} (r : Result T E) {P : Type 0} → is_err r ≡ true → OnErr r P → P
-if_err (Ok x) t h = cc
-if_err (Err e) t h = h
+  pub back_small : AreSmall m → IsSmall (kept_at second other -ℤ more)
+  back_small h =
+      subst (λ (z : ℤ). IsSmall z)
+      (sym (ap₂ (λ (sums : Kept) (q : List ℕ). kept_at sums q -ℤ more) (same ∙ first_is) one ∙ ap (λ (z : ℤ). z -ℤ more) (at_its_key m key more) ∙ more_then_less (kept_at m key) more))
+      (h key)
+    where
+      more_then_less : (z a : ℤ) → (z +ℤ a) -ℤ a ≡ z
+      more_then_less z a = omega (arith, ints)
 
 pub small_sums : (m n : Kept) → n ≡ m → AreSmall m → AreSmall n
 small_sums m n e h = λ key. subst (λ (sums : Kept). IsSmall (kept_at sums key)) (sym e) (h key)

@@ -1,6 +1,7 @@
 -- A tree of sums changes as the sums that it holds.
-use Rattle.std.proofs.Common.{◌≡◌, ℕ, ℤ, ◌+ℤ◌, Bool, true, false, cond, ◌&&◌, List, [], ◌∷◌, length, refl, sym, ap, ◌∙◌, subst}
-use Rattle.std.specs.Prelude.{T, IsSome, Option, Some, None}
+use Rattle.std.proofs.Common.{◌≡◌, ℕ, ℤ, ◌+ℤ◌, ◌-ℤ◌, Bool, true, false, cond, ◌&&◌, List, [], ◌∷◌, length, refl, sym, ap, ◌∙◌, subst, arith}
+use Rattle.std.proofs.lemmas.Int.{ints}
+use Rattle.std.specs.Prelude.{T, IsSome, Option, Some, None, pos, unwrap_or}
 use Rattle.std.specs.List.{AllByRecursion}
 use Rattle.std.specs.List.Sorted.{IsStrictlySortedBy}
 use Rattle.std.specs.Map.{lookup, keys_of}
@@ -14,7 +15,7 @@ use Rattle.std.specs.BTreeMap.{BTreeMap, is_at}
 use Rattle.std.specs.FinMap as finite
 use Rattle.std.specs.FinMap.Entries.{below_all}
 use Rattle.iss_model.specs.state.Kept.{Kept, nothing_kept, kept_at, after_change}
-use Rattle.iss_ledger.specs.Trees.{kept_in, IsInOrder, with_sum}
+use Rattle.iss_ledger.specs.Trees.{kept_in, IsInOrder, taken_back}
 
 abbrev order : List ℕ → List ℕ → Ordering
 order = slice_cmp nat_cmp
@@ -62,6 +63,14 @@ pub changed_by : (m n : BTreeMap (List ℕ) ℤ) (key : List ℕ) (by sum was : 
 changed_by m n key by sum was p q u e f =
     sums_put m n key sum p q u ∙ ap (λ (z : ℤ). finite.insert (kept_in m) key z) (f ∙ ap (λ (z : ℤ). z +ℤ by) e)
 
+-- the sum that stands at a key
+pub stood_at : (m : BTreeMap (List ℕ) ℤ) (key : List ℕ) (was : ℤ) → IsInOrder m → Some was ≡ tree.get order m key → was ≡ kept_at (kept_in m) key
+stood_at m key was o e = ap (λ (x : Option ℤ). unwrap_or x (pos 0)) (e ∙ sym (get_in m key o))
+
+-- no sum stands at a key
+pub lacked_at : (m : BTreeMap (List ℕ) ℤ) (key : List ℕ) → IsInOrder m → None ≡ tree.get order m key → pos 0 ≡ kept_at (kept_in m) key
+lacked_at m key o e = ap (λ (x : Option ℤ). unwrap_or x (pos 0)) (e ∙ sym (get_in m key o))
+
 pub sums_taken : (m n : BTreeMap (List ℕ) ℤ) (key : List ℕ) → IsInOrder m → IsInOrder n
     → tree.Updates order m n key None → kept_in n ≡ finite.remove (kept_in m) key
 sums_taken m n key p q u =
@@ -71,36 +80,46 @@ sums_taken m n key p q u =
     ∙ ap (λ (o : Option ℤ). cond (eq_by_cmp order k key) None o) (sym (get_in m k p))
     ∙ sym (finite.get-remove nat_list_cmp_total (kept_in m) key k))
 
+as_less : (z a : ℤ) → z -ℤ a ≡ z +ℤ (pos 0 -ℤ a)
+as_less z a = omega (arith, ints)
+
+-- what was added is taken off a sum that stood before
+pub less_by : (m n : BTreeMap (List ℕ) ℤ) (key : List ℕ) (by sum was : ℤ) (stood : Bool) → IsInOrder m → IsInOrder n
+    → tree.Updates order m n key (Some sum) → was ≡ kept_at (kept_in m) key → sum ≡ was -ℤ by → stood ≡ true → kept_in n ≡ taken_back (kept_in m) key by stood
+less_by m n key by sum was stood p q u e f t =
+    changed_by m n key (pos 0 -ℤ by) sum was p q u e (f ∙ as_less was by) ∙ ap (λ (b : Bool). taken_back (kept_in m) key by b) (sym t)
+
 pub keys_in : (m : BTreeMap (List ℕ) ℤ) → IsInOrder m → finite.keys (kept_in m) ≡ keys_of m.entries
 keys_in m o = ap (λ (es : List (List ℕ × ℤ)). keys_of es) (finite.entries-from_sorted order m.entries (in_order m.entries o))
 
 pub entries_in : (m : BTreeMap (List ℕ) ℤ) → IsInOrder m → finite.entries (kept_in m) ≡ m.entries
 entries_in m o = finite.entries-from_sorted order m.entries (in_order m.entries o)
 
-either_way : (b : Bool) (x o : Option ℤ) (sum : ℤ) → (b ≡ true → x ≡ o) → cond b o (cond b (Some sum) x) ≡ x
-either_way true x o sum h = sym (h refl)
-either_way false x o sum h = refl
+either_way : (b : Bool) (x : Option ℤ) (sum : ℤ) → (b ≡ true → x ≡ None) → cond b None (cond b (Some sum) x) ≡ x
+either_way true x sum h = sym (h refl)
+either_way false x sum h = refl
+
+as_it_was : (b : Bool) (x o : Option ℤ) → (b ≡ true → x ≡ o) → cond b o x ≡ x
+as_it_was true x o h = sym (h refl)
+as_it_was false x o h = refl
 
 -- a key that ties has what the key has
 tied : (m : Kept) (key k : List ℕ) (o : Option ℤ) → finite.get m key ≡ o → eq_by_cmp order k key ≡ true → finite.get m k ≡ o
 tied m key k o e t = sym (finite.get_tied nat_list_cmp_total m k key ((Equal-is (order k key)).0 t)) ∙ e
 
--- what was put at a key is taken back
-back_at : (m : Kept) (key k : List ℕ) (sum : ℤ) (o : Option ℤ) → finite.get m key ≡ o
-    → finite.get (with_sum (finite.insert m key sum) key o) k ≡ finite.get m k
-back_at m key k sum None e =
-    finite.get-remove nat_list_cmp_total (finite.insert m key sum) key k
+-- what was put at a new key is taken out again
+pub put_out : (m : Kept) (key : List ℕ) (sum : ℤ) → finite.get m key ≡ None → finite.remove (finite.insert m key sum) key ≡ m
+put_out m key sum e =
+    finite.same_map nat_list_cmp_total one_key (finite.remove (finite.insert m key sum) key) m
+    (λ k. finite.get-remove nat_list_cmp_total (finite.insert m key sum) key k
     ∙ ap (λ (x : Option ℤ). cond (eq_by_cmp order k key) None x) (finite.get-insert nat_list_cmp_total m key sum k)
-    ∙ either_way (eq_by_cmp order k key) (finite.get m k) None sum (tied m key k None e)
-back_at m key k sum (Some old) e =
-    finite.get-insert nat_list_cmp_total (finite.insert m key sum) key old k
-    ∙ ap (λ (x : Option ℤ). cond (eq_by_cmp order k key) (Some old) x) (finite.get-insert nat_list_cmp_total m key sum k)
-    ∙ either_way (eq_by_cmp order k key) (finite.get m k) (Some old) sum (tied m key k (Some old) e)
+    ∙ either_way (eq_by_cmp order k key) (finite.get m k) sum (tied m key k None e))
 
-pub put_back : (m : Kept) (key : List ℕ) (sum : ℤ) → with_sum (finite.insert m key sum) key (finite.get m key) ≡ m
-put_back m key sum =
-    finite.same_map nat_list_cmp_total one_key (with_sum (finite.insert m key sum) key (finite.get m key)) m
-    (λ k. back_at m key k sum (finite.get m key) refl)
+-- what stands at a key is put there
+pub put_same : (m : Kept) (key : List ℕ) (sum : ℤ) → finite.get m key ≡ Some sum → finite.insert m key sum ≡ m
+put_same m key sum e =
+    finite.same_map nat_list_cmp_total one_key (finite.insert m key sum) m
+    (λ k. finite.get-insert nat_list_cmp_total m key sum k ∙ as_it_was (eq_by_cmp order k key) (finite.get m k) (Some sum) (tied m key k (Some sum) e))
 
 -- what is put at a key twice
 overwritten : (b : Bool) (x y : Option ℤ) (o : Option ℤ) → cond b x (cond b y o) ≡ cond b x o

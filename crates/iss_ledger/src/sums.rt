@@ -1,12 +1,12 @@
 //! Sums by the key of an account.
-ghost use Rattle.std.specs.Prelude.{◌≡◌, ◌<◌, ◌^◌, ◌+ℤ◌, pos, Some, OnOk, OnErr, IsSome};
+ghost use Rattle.std.specs.Prelude.{◌≡◌, ◌<◌, ◌^◌, ◌+ℤ◌, ◌-ℤ◌, pos, Some, OnOk, OnErr, IfOk, IsSome, is_some};
 ghost use Rattle.std.specs.BTreeMap as tree;
 ghost use Rattle.std.specs.Ordering.{nat_cmp};
 ghost use Rattle.std.specs.Cmp.Lexicographic.{slice_cmp};
 ghost use Rattle.std.specs.FinMap as finite;
 ghost use Rattle.iss_model.specs.Sums.{account_key};
 ghost use Rattle.iss_model.specs.state.Kept.{kept_at, after_change};
-ghost use Rattle.iss_ledger.specs.Trees.{kept_in, IsInOrder, with_sum};
+ghost use Rattle.iss_ledger.specs.Trees.{kept_in, IsInOrder, taken_back};
 ghost use Rattle.iss_model.specs.state.Kept.{IsSmall, AreSmall};
 ghost use Rattle.iss_ledger.specs.Posts.{after_post, moved_amount};
 
@@ -39,14 +39,14 @@ pub(crate) fn post(
     ensures order { IsInOrder sums.new }
 {
     let amount = moved(from, to, amount);
-    let credited = AccountKey::new(to);
-    let before = sums.get(&credited).copied();
-    change(sums, AccountKey::new(to), amount)?;
-    let debited = change(sums, AccountKey::new(from), -amount);
-    if debited.is_err() {
-        put_back(sums, &credited, before);
+    let stood = change(sums, AccountKey::new(to), amount)?;
+    match change(sums, AccountKey::new(from), -amount) {
+        Ok(_) => Ok(()),
+        Err(refused) => {
+            take_back(sums, &AccountKey::new(to), amount, stood);
+            Err(refused)
+        }
     }
-    debited
 }
 
 /// Sets the sum of an account. If an allocation fails, the sums stay as they were.
@@ -80,37 +80,43 @@ fn moved(from: &Account, to: &Account, amount: u64) -> i64
     }
 }
 
-/// Adds to the sum at a key. If an allocation fails, the sums stay as they were.
+/// Adds to the sum at a key, and tells whether there was one. If an allocation fails, the sums stay as they were.
 #[tactic(auto, using(crate::proofs::TreeSums::sums_put))]
-fn change(sums: &mut BTreeMap<AccountKey, i64>, key: AccountKey, by: i64) -> Result<(), AllocError>
+fn change(
+    sums: &mut BTreeMap<AccountKey, i64>,
+    key: AccountKey,
+    by: i64,
+) -> Result<bool, AllocError>
     requires order { IsInOrder sums.old }
     requires small { IsSmall (kept_at (kept_in sums.old) key +ℤ by) }
     ensures changed { OnOk result (kept_in sums.new ≡ after_change (kept_in sums.old) (record { key = key; by = by })) }
+    ensures stood { IfOk result (λ stood. stood ≡ is_some (finite.get (kept_in sums.old) key)) }
     ensures unchanged { OnErr result (tree.IsUnchanged sums.old sums.new) }
     ensures stands { OnOk result (IsSome (tree.get (slice_cmp nat_cmp) sums.new key)) }
     ensures order { IsInOrder sums.new }
 {
-    let sum = sum_at(sums, &key) + by;
-    sums.insert(key, sum)?;
-    Ok(())
+    if let Some(sum) = sums.get_mut(&key) {
+        *sum += by;
+        return Ok(true);
+    }
+    sums.insert(key, by)?;
+    Ok(false)
 }
 
-/// Sets a key that stands back to the sum that it had before, if it had one.
+/// Takes what was added to the sum at a key away again, and the key too if it didn't stand before.
 #[tactic(auto, using(crate::proofs::TreeSums::sums_put, crate::proofs::TreeSums::sums_taken))]
-fn put_back(sums: &mut BTreeMap<AccountKey, i64>, key: &AccountKey, before: Option<i64>)
+fn take_back(sums: &mut BTreeMap<AccountKey, i64>, key: &AccountKey, by: i64, stood: bool)
     requires order { IsInOrder sums.old }
     requires stands { IsSome (tree.get (slice_cmp nat_cmp) sums.old key.now) }
-    ensures sums { kept_in sums.new ≡ with_sum (kept_in sums.old) key.now before }
+    requires small { IsSmall (kept_at (kept_in sums.old) key.now -ℤ by) }
+    ensures sums { kept_in sums.new ≡ taken_back (kept_in sums.old) key.now by stood }
     ensures order { IsInOrder sums.new }
 {
-    match before {
-        None => {
-            sums.remove(key);
-        }
-        Some(sum) => {
-            if let Some(place) = sums.get_mut(key) {
-                *place = sum;
-            }
-        }
+    if !stood {
+        sums.remove(key);
+        return;
+    }
+    if let Some(sum) = sums.get_mut(key) {
+        *sum -= by;
     }
 }
