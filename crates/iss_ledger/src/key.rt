@@ -108,8 +108,19 @@ fn by_owner(a: &Account, b: &Account) -> Ordering
     ensures first_plain { list_all is_above_zero (user_of a.now) ≡ true }
     ensures second_plain { list_all is_above_zero (user_of b.now) ≡ true }
 {
-    let by_user = user(a).cmp(user(b));
-    by_user.then(currency(a).cmp(&currency(b)))
+    let _first = user(a);
+    let _second = user(b);
+    by_user(a, b).then(currency(a).cmp(&currency(b)))
+}
+
+/// The order of the users of two accounts. Two tokens are compared by words.
+fn by_user(a: &Account, b: &Account) -> Ordering
+    ensures { result ≡ slice_cmp nat_cmp (user_of a.now) (user_of b.now) }
+{
+    match (a, b) {
+        (Account::User(first, _), Account::User(second, _)) => first.cmp(second),
+        _ => user(a).cmp(user(b)),
+    }
 }
 
 fn kind(account: &Account) -> u8
