@@ -4,3 +4,5 @@ pub mod Found
 pub mod Steps
 pub mod Added
 mod Seen
+pub mod Shortened
+mod Changed

@@ -1,3 +1,4 @@
 pub mod Values
 pub mod Standing
 pub mod Kept
+pub mod Short

@@ -6,7 +6,8 @@ ghost use Rattle.iss_model.specs.Inputs.{is_event};
 ghost use Rattle.iss_model.specs.rules.Facts.{event_reply};
 ghost use Rattle.iss_accepted.specs.Values.{IsUnknown, no_events, events_facts, answer_in, seen_among, with_decision, with_input};
 
-use crate::row::{EventRow, push, seen_rows};
+use crate::row::{push, seen_rows};
+use crate::short::{ShortRow, ShortVerdict, short_count, shortened};
 use iss_codec::put_record;
 use iss_index::Names;
 use iss_model::{Answer, CallState, Input, Reply, Seen, Token, Verdict};
@@ -20,7 +21,9 @@ use std::marker::Model;
 /// The row of an event stands at the place of its name.
 #[derive(Drop)]
 pub struct Events {
-    rows: Vec<EventRow>,
+    rows: Vec<ShortRow>,
+    // The verdicts that a row tells by their place here.
+    others: Vec<Verdict>,
     bytes: Vec<u8>,
     names: Names,
     decided: Vec<u32>,
@@ -32,11 +35,12 @@ impl Model for Events {
 
     ghost Value = { EventsNow };
 
-    ghost use Rattle.iss_accepted.specs.Kept.{events_now, standings_of, IsKept};
+    ghost use Rattle.iss_accepted.specs.Kept.{events_now, standings_of};
+    ghost use Rattle.iss_accepted.specs.Short.{rows_of, IsKeptShort};
 
-    ghost view = { λ e. events_now (standings_of e.bytes.items e.rows.items) e.decided.items };
+    ghost view = { λ e. events_now (standings_of e.bytes.items (rows_of e.others.items e.rows.items)) e.decided.items };
 
-    ghost invariant = { λ e. IsKept e.bytes.items e.rows.items e.names e.decided.items };
+    ghost invariant = { λ e. IsKeptShort e.bytes.items e.others.items e.rows.items e.names e.decided.items };
 }
 
 impl Events {
@@ -46,6 +50,7 @@ impl Events {
     {
         Events {
             rows: Vec::new(alloc),
+            others: Vec::new(alloc),
             bytes: Vec::new(alloc),
             names: Names::new(alloc),
             decided: Vec::new(alloc),
@@ -59,6 +64,7 @@ impl Events {
     {
         Ok(Events {
             rows: Vec::with_capacity(alloc, count)?,
+            others: Vec::new(alloc),
             bytes: Vec::new(alloc),
             names: Names::with_room(alloc, count)?,
             decided: Vec::with_capacity(alloc, count)?,
@@ -78,7 +84,7 @@ impl Events {
         ensures { result ≡ event_reply (events_facts self.now) event.now }
     {
         match self.names.find(event) {
-            Some(place) => Some(self.rows[place as usize].reply()),
+            Some(place) => Some(self.rows[place as usize].whole(&self.others).reply()),
             None => None,
         }
     }
@@ -95,7 +101,8 @@ impl Events {
         let Some(place) = self.names.find(&token) else {
             return Ok(None);
         };
-        let told = self.rows[place as usize].answer(alloc, &self.bytes, &token, input)?;
+        let row = self.rows[place as usize].whole(&self.others);
+        let told = row.answer(alloc, &self.bytes, &token, input)?;
         Ok(Some(told))
     }
 
@@ -107,11 +114,11 @@ impl Events {
     ) -> Result<Vec<Seen>, AllocError>
         ensures { IfOk result (λ v. v.items ≡ map (seen_among self.now marks.now) self.now.accepted) }
     {
-        seen_rows(alloc, &self.rows, &self.bytes, marks)
+        seen_rows(alloc, &self.rows, &self.others, &self.bytes, marks)
     }
 
     /// Adds the input of a record, if it is an event. If an allocation fails, all stays as it was, and so if
-    /// 2^32 - 1 events stand, as many as places are kept for.
+    /// 2^32 - 1 events stand, as many as places are kept for, or if the record's spelling takes 2^32 bytes.
     pub fn add(&mut self, number: u32, at: u64, input: &Input) -> Result<(), AllocError>
         requires form { IsTrue (is_in_form input.now) }
         requires stamp { IsTrue (is_stamp at) }
@@ -124,18 +131,19 @@ impl Events {
         };
         self.spelled.clear();
         put_record(&mut self.spelled, at, input)?;
+        let length = short_count(self.spelled.len())?;
         self.rows.reserve(1)?;
         let start = self.bytes.len();
         self.bytes.extend_from_slice(&self.spelled)?;
         self.names.add(&token)?;
         push(
             &mut self.rows,
-            &EventRow {
+            &ShortRow {
                 number,
+                length,
                 at,
                 start,
-                end: self.bytes.len(),
-                verdict: None,
+                verdict: ShortVerdict::Open,
             },
         )?;
         Ok(())
@@ -151,8 +159,9 @@ impl Events {
         let Some(place) = self.names.find_last(event) else {
             return Ok(());
         };
+        let verdict = shortened(&mut self.others, &verdict)?;
         self.decided.push(place)?;
-        self.rows[place as usize].verdict = Some(verdict);
+        self.rows[place as usize].verdict = verdict;
         Ok(())
     }
 }

@@ -8,5 +8,6 @@
 
 mod events;
 mod row;
+mod short;
 
 pub use events::Events;

@@ -1,5 +1,5 @@
 //! The row of an accepted event.
-ghost use Rattle.std.specs.Prelude.{◌≡◌, ◌++◌, ◌∷◌, [], ◌≤◌, IsTrue, IfOk, OnOk, OnErr, length, map};
+ghost use Rattle.std.specs.Prelude.{◌≡◌, ◌++◌, ◌∷◌, [], ◌≤◌, ◌<◌, ◌^◌, IsTrue, IfOk, OnOk, OnErr, length, map};
 ghost use Rattle.std.specs.BTreeMap.{get};
 ghost use Rattle.std.specs.Cmp.Lexicographic.{slice_cmp};
 ghost use Rattle.std.specs.List.{AllByRecursion, list_all};
@@ -12,7 +12,9 @@ ghost use Rattle.iss_model.specs.Tokens.{is_token};
 ghost use Rattle.iss_model.specs.rules.Facts.{reply_of_verdict};
 ghost use Rattle.iss_model.specs.texts.Spelling.{spelling, tokens_of};
 ghost use Rattle.iss_accepted.specs.Kept.{IsSpelledIn, row_answer, row_seen};
+ghost use Rattle.iss_accepted.specs.Short.{rows_of};
 
+use crate::short::ShortRow;
 use iss_codec::{decode, put_record};
 use iss_model::{Answer, CallState, Input, Reply, Seen, Token, Verdict};
 use std::alloc::{AllocError, Global};
@@ -94,16 +96,18 @@ fn mark_of(marks: &BTreeMap<Token, CallState>, input: &Input) -> Option<CallStat
 /// The events of rows as they stand, each with the mark of its call among `marks`.
 pub(crate) fn seen_rows(
     alloc: Global,
-    rows: &[EventRow],
+    rows: &[ShortRow],
+    others: &[Verdict],
     bytes: &[u8],
     marks: &BTreeMap<Token, CallState>,
 ) -> Result<Vec<Seen>, AllocError>
-    requires { AllByRecursion (IsSpelledIn bytes.now) rows.now }
-    ensures { IfOk result (λ v. v.items ≡ map (row_seen bytes.now marks.now) rows.now) }
+    requires few { length bytes.now < 2 ^ 64 }
+    requires spelled { AllByRecursion (IsSpelledIn bytes.now) (rows_of others.now rows.now) }
+    ensures { IfOk result (λ v. v.items ≡ map (row_seen bytes.now marks.now) (rows_of others.now rows.now)) }
 {
     let mut seen = Vec::new(alloc);
     for row in rows {
-        seen.push(row.seen(alloc, bytes, marks)?)?;
+        seen.push(row.whole(others).seen(alloc, bytes, marks)?)?;
     }
     Ok(seen)
 }

@@ -1,9 +1,12 @@
-use Rattle.std.proofs.Common.{List, ℕ, [], ◌∷◌, ◌++◌, ◌∙◌, None, ap, sym, refl, arith}
+use Rattle.std.proofs.Common.{◌≡◌, List, ℕ, ◌+◌, [], ◌∷◌, ◌++◌, ◌∙◌, length, ap, sym, refl, arith, length-append}
 use Rattle.std.specs.Prelude.{Result, Ok, Err, OnErr}
 use Rattle.iss_model.specs.texts.Spelling.{spelling}
-use Rattle.iss_accepted.specs.declared.row.EventRow.{EventRow}
+use Rattle.iss_accepted.specs.declared.short.ShortRow.{ShortRow}
+use Rattle.iss_accepted.specs.declared.short.ShortVerdict.TheVariants as short
+use Rattle.iss_accepted.specs.Short.{row_of, rows_of}
 use Rattle.iss_accepted.proofs.Steps.{in_form, new_unplaced}
-use Rattle.iss_accepted.proofs.Added.{Shows, with_input, grown_shows, added_shows}
+use Rattle.iss_accepted.proofs.Added.{with_input}
+use Rattle.iss_accepted.proofs.Changed.{ShowsShort, bytes_more, event_more}
 use Rattle.iss_accepted.proofs.events.Events.add.Goals as goal
 
 -- what holds anyway holds if a call fails
@@ -13,14 +16,15 @@ stays (Err e) p = p
 
 pub add-requires : goal.add-requires
 add-requires c =
-    new_unplaced c.self.inside.bytes.items c.self.inside.rows.items c.self.inside.names c.self.inside.decided.items c.args.self.now c.in-Some.token
-    c.self.invariant c.self.view_is (c.requires.new c.in-Some.token (sym c.in-Some.ensures))
+    new_unplaced c.self.inside.bytes.items (rows_of c.self.inside.others.items c.self.inside.rows.items) c.self.inside.names c.self.inside.decided.items c.args.self.now c.in-Some.token
+    c.self.invariant.kept c.self.view_is (c.requires.new c.in-Some.token (sym c.in-Some.ensures))
 
 -- if the name isn't taken up, only bytes were added
-only_bytes : (c : goal.After-from_residual-in_err-add) → Shows c.extend_from_slice.new.self.items c.reserve.new.self.items c.add.new.self c.self.inside.decided.items c.args.self.now
+only_bytes : (c : goal.After-from_residual-in_err-add)
+    → ShowsShort c.extend_from_slice.new.self.items c.self.inside.others.items c.reserve.new.self.items c.add.new.self c.self.inside.decided.items c.args.self.now
 only_bytes c =
-    grown_shows c.self.inside.bytes.items c.self.inside.rows.items c.self.inside.names c.self.inside.decided.items c.args.self.now c.self.invariant c.self.view_is
-    c.extend_from_slice.new.self.items c.deref.result.now c.reserve.new.self.items c.add.new.self
+    bytes_more c.self.inside.bytes.items c.self.inside.others.items c.self.inside.rows.items c.self.inside.names c.self.inside.decided.items c.args.self.now
+    c.self.invariant c.self.view_is c.extend_from_slice.new.self.items c.deref.result.now c.reserve.new.self.items c.add.new.self
     c.in_ok-extend_from_slice.ensures.items c.in_ok-reserve.ensures.items c.in_err-add.ensures.refused
 
 pub invariant_of-self-in_err-add : goal.invariant_of-self-in_err-add
@@ -30,24 +34,50 @@ pub returns-in_err-add-clause-refused : goal.returns-in_err-add-clause-refused
 returns-in_err-add-clause-refused c = stays c.from_residual-in_err-add.result (only_bytes c).view
 
 -- the row that is added
-abbrev newest : goal.In_ok-push → EventRow
-newest c = record { number = c.args.number; at = c.args.at; start = c.len-start.result; end = c.len.result; verdict = None }
+abbrev newest : goal.In_ok-push → ShortRow
+newest c = record { number = c.args.number; length = c.in_ok-length.length; at = c.args.at; start = c.len-start.result; verdict = short.Open }
+
+-- the record that is added
+abbrev spelled_now : goal.In_ok-push → List ℕ
+spelled_now c = spelling (record { at = c.args.at; input = c.args.input.now })
+
+spelled_is : (c : goal.In_ok-push) → c.put_record.new.out.items ≡ spelled_now c
+spelled_is c = c.in_ok-put_record.ensures.spelled ∙ ap (λ (xs : List ℕ). xs ++ spelled_now c) c.clear.ensures.items
+
+bytes_are : (c : goal.In_ok-push) → c.extend_from_slice.new.self.items ≡ c.self.inside.bytes.items ++ spelled_now c
+bytes_are c =
+    c.in_ok-extend_from_slice.ensures.items
+    ∙ ap (λ (xs : List ℕ). c.self.inside.bytes.items ++ xs) (c.deref.ensures.value ∙ spelled_is c)
+
+starts : (c : goal.In_ok-push) → c.len-start.result ≡ length c.self.inside.bytes.items
+starts c = omega (arith, c.len-start.ensures, c.self.inside.bytes.ok.0)
+
+ends : (c : goal.In_ok-push) → c.len-start.result + c.in_ok-length.length ≡ length c.extend_from_slice.new.self.items
+ends c =
+    omega (
+      arith,
+      starts c,
+      c.in_ok-length.ensures,
+      c.len.ensures,
+      c.put_record.new.out.ok.0,
+      c.deref.ensures.len,
+      length-append c.self.inside.bytes.items c.deref.result.now,
+      ap (λ (xs : List ℕ). length xs) c.in_ok-extend_from_slice.ensures.items,
+      ap (λ (xs : List ℕ). length xs) c.deref.ensures.value,
+    )
 
 one_more : (c : goal.In_ok-push)
-    → Shows c.extend_from_slice.new.self.items c.push.new.things.items c.add.new.self c.self.inside.decided.items (with_input c.args.self.now (newest c) c.args.input.now)
+    → ShowsShort c.extend_from_slice.new.self.items c.self.inside.others.items c.push.new.things.items c.add.new.self c.self.inside.decided.items
+    (with_input c.args.self.now (row_of c.self.inside.others.items (newest c)) c.args.input.now)
 one_more c =
-    added_shows c.self.inside.bytes.items c.self.inside.rows.items c.self.inside.names c.self.inside.decided.items c.args.self.now c.self.invariant c.self.view_is
+    event_more c.self.inside.bytes.items c.self.inside.others.items c.self.inside.rows.items c.self.inside.names c.self.inside.decided.items c.args.self.now
+    c.self.invariant c.self.view_is
     c.extend_from_slice.new.self.items c.push.new.things.items c.add.new.self (newest c) c.args.input.now c.in-Some.token
-    (c.in_ok-extend_from_slice.ensures.items
-    ∙ ap (λ (xs : List ℕ). c.self.inside.bytes.items ++ xs)
-    (c.deref.ensures.value ∙ c.in_ok-put_record.ensures.spelled
-    ∙ ap (λ (xs : List ℕ). xs ++ spelling (record { at = c.args.at; input = c.args.input.now })) c.clear.ensures.items))
-    (omega (arith, c.len-start.ensures, c.self.inside.bytes.ok.0))
-    (omega (arith, c.len.ensures, c.extend_from_slice.new.self.ok.0))
+    (bytes_are c) (starts c) (ends c)
     (in_form c.args.at c.args.input.now c.requires.stamp c.requires.form c.in_ok-put_record.ensures.tokens)
     refl (sym c.in-Some.ensures) (c.requires.new c.in-Some.token (sym c.in-Some.ensures))
     c.in_ok-add.ensures.added
-    (c.in_ok-push.ensures.pushed ∙ ap (λ (xs : List EventRow). xs ++ newest c ∷ []) c.in_ok-reserve.ensures.items)
+    (c.in_ok-push.ensures.pushed ∙ ap (λ (xs : List ShortRow). xs ++ newest c ∷ []) c.in_ok-reserve.ensures.items)
 
 pub invariant_of-self-2 : goal.invariant_of-self-2
 invariant_of-self-2 c = (one_more c).kept

@@ -1,28 +1,61 @@
-use Rattle.std.proofs.Common.{◌<◌, length, refl, arith}
-use Rattle.iss_accepted.proofs.Steps.{placed_within, none_accepted, decided_kept, decided_view}
+use Rattle.std.proofs.Common.{◌<◌, ℕ, List, length, set, refl, sym, subst, arith}
+use Rattle.std.specs.Prelude.{Result, Ok, Err, OnErr}
+use Rattle.iss_accepted.specs.Values.{with_decision}
+use Rattle.iss_accepted.specs.Short.{other_of, rows_of}
+use Rattle.iss_accepted.proofs.Steps.{placed_within, none_accepted}
+use Rattle.iss_accepted.proofs.Shortened.{short_below}
+use Rattle.iss_accepted.proofs.Changed.{ShowsShort, verdicts_more, verdict_more}
 use Rattle.iss_accepted.proofs.events.Events.decide.Goals as goal
 
 pub returns-in_default-clause-decided : goal.returns-in_default-clause-decided
 returns-in_default-clause-decided c =
     absurd
-    (none_accepted c.self.inside.bytes.items c.self.inside.rows.items c.self.inside.names c.self.inside.decided.items c.args.self.now c.args.event.now
-    c.self.invariant c.self.view_is c.in_default.ensures.value c.requires.accepted)
+    (none_accepted c.self.inside.bytes.items (rows_of c.self.inside.others.items c.self.inside.rows.items) c.self.inside.names c.self.inside.decided.items
+    c.args.self.now c.args.event.now c.self.invariant.kept c.self.view_is c.in_default.ensures.value c.requires.accepted)
 
 pub index_mut-requires : goal.index_mut-requires
 index_mut-requires c =
     let below : c.in-Some.place < length c.self.inside.rows.items =
-    placed_within c.self.inside.bytes.items c.self.inside.rows.items c.self.inside.names c.self.inside.decided.items c.args.self.now c.args.event.now
-    c.self.invariant c.self.view_is c.in-Some.place c.in-Some.ensures.value
+    short_below c.self.inside.others.items c.self.inside.rows.items c.in-Some.place
+    (placed_within c.self.inside.bytes.items (rows_of c.self.inside.others.items c.self.inside.rows.items) c.self.inside.names c.self.inside.decided.items
+    c.args.self.now c.args.event.now c.self.invariant.kept c.self.view_is c.in-Some.place c.in-Some.ensures.value)
     in omega (arith, below, c.self.inside.rows.ok.0)
 
+-- what holds anyway holds if a call fails
+stays : {T E P : Type 0} (r : Result T E) → P → OnErr r P
+stays (Ok x) p = tt
+stays (Err e) p = p
+
+-- if its place isn't noted, only another verdict may have been added
+one_verdict : (c : goal.After-from_residual-in_err-push)
+    → ShowsShort c.self.inside.bytes.items c.shortened.new.others.items c.self.inside.rows.items c.self.inside.names c.push.new.self.items c.args.self.now
+one_verdict c =
+    subst
+    (λ (ps : List ℕ).
+    ShowsShort c.self.inside.bytes.items c.shortened.new.others.items c.self.inside.rows.items c.self.inside.names ps c.args.self.now)
+    (sym c.in_err-push.ensures.items)
+    (verdicts_more c.self.inside.bytes.items c.self.inside.others.items c.self.inside.rows.items c.self.inside.names c.self.inside.decided.items c.args.self.now
+    c.self.invariant c.self.view_is (other_of c.args.verdict) c.shortened.new.others.items c.in_ok-verdict.ensures.added)
+
+pub invariant_of-self-in_err-push : goal.invariant_of-self-in_err-push
+invariant_of-self-in_err-push c = (one_verdict c).kept
+
+pub returns-in_err-push-clause-refused : goal.returns-in_err-push-clause-refused
+returns-in_err-push-clause-refused c = stays c.from_residual-in_err-push.result (one_verdict c).view
+
+-- what is kept of the verdict
+noted : (c : goal.After-self-1)
+    → ShowsShort c.self.inside.bytes.items c.shortened.new.others.items
+    (set c.self.inside.rows.items c.in-Some.place (record (c.index_mut.result.now) { verdict = c.in_ok-verdict.verdict })) c.self.inside.names c.push.new.self.items
+    (with_decision c.args.self.now c.args.event.now c.args.verdict)
+noted c =
+    verdict_more c.self.inside.bytes.items c.self.inside.others.items c.self.inside.rows.items c.self.inside.names c.self.inside.decided.items c.args.self.now
+    c.self.invariant c.self.view_is c.args.event.now c.in-Some.place c.index_mut.result.now c.in-Some.ensures.value c.index_mut.ensures.value
+    c.args.verdict c.requires.undecided c.shortened.new.others.items _ c.push.new.self.items c.in_ok-verdict.verdict
+    c.in_ok-verdict.ensures.short c.in_ok-verdict.ensures.added refl c.in_ok-push.ensures.items
+
 pub invariant_of-self-2 : goal.invariant_of-self-2
-invariant_of-self-2 c =
-    decided_kept c.self.inside.bytes.items c.self.inside.rows.items c.self.inside.names c.self.inside.decided.items c.args.self.now c.args.event.now
-    c.self.invariant c.self.view_is c.in-Some.place c.index_mut.result.now c.in-Some.ensures.value c.index_mut.ensures.value
-    c.args.verdict c.requires.undecided _ c.push.new.self.items refl c.in_ok-push.ensures.items
+invariant_of-self-2 c = (noted c).kept
 
 pub returns-clause-decided : goal.returns-clause-decided
-returns-clause-decided c =
-    decided_view c.self.inside.bytes.items c.self.inside.rows.items c.self.inside.names c.self.inside.decided.items c.args.self.now c.args.event.now
-    c.self.invariant c.self.view_is c.in-Some.place c.index_mut.result.now c.in-Some.ensures.value c.index_mut.ensures.value
-    c.args.verdict c.requires.undecided _ c.push.new.self.items refl c.in_ok-push.ensures.items
+returns-clause-decided c = (noted c).view
