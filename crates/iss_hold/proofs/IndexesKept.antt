@@ -136,6 +136,12 @@ indexed_more hs places more_places sums more_sums order more_order t a unknown n
       rising = rising;
     }
 
+-- the names of the holds are their places' names
+pub indexed_own : {hs : List Hold} {places : List (List ℕ)} {sums : BTreeMap (List ℕ × ℕ) ℕ} {order : BTreeMap (Reverse (ℕ × ℕ)) ℕ}
+    → AreIndexed hs places sums order → AreIndexed hs (names hs) sums order
+indexed_own a =
+    record { distinct = a.distinct; placed = record { same = refl }; summed = a.summed; once = a.once; ordered = a.ordered; rising = a.rising }
+
 -- indexes that find the same are in order
 pub indexed_same : {hs : List Hold} {places same_places : List (List ℕ)} {sums same_sums : BTreeMap (List ℕ × ℕ) ℕ} {order same_order : BTreeMap (Reverse (ℕ × ℕ)) ℕ}
     → AreIndexed hs places sums order

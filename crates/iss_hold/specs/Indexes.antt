@@ -89,4 +89,4 @@ pub record AreIndexed (holds : List Hold) (places : List (List ℕ)) (sums : BTr
 
 -- a table's indexes agree with its holds
 abbrev pub IsIndexed : Table → Type 0
-IsIndexed table = AreIndexed table.holds table.places table.sums table.order
+IsIndexed table = AreIndexed table.holds (names table.holds) table.sums table.order

@@ -1,5 +1,5 @@
 -- Names that are kept once, and holds with the places of their names.
-use Rattle.std.specs.Prelude.{◌≡◌, ℕ, List, [], ◌∷◌, slice_get, Some, IsSome, unwrap_or}
+use Rattle.std.specs.Prelude.{◌≡◌, ℕ, List, [], ◌∷◌, length, slice_get, Some, IsSome, unwrap_or}
 use Rattle.iss_hold.specs.declared.hold.Hold.{Hold}
 use Rattle.iss_hold.specs.declared.list.HoldRow.{HoldRow}
 
@@ -11,12 +11,12 @@ pub record IsGrown (before after : List (List ℕ)) : Type 0 where
 abbrev pub name_in : List (List ℕ) → ℕ → List ℕ
 name_in names place = unwrap_or (slice_get names place) []
 
--- the hold of a row, over these names
-abbrev pub hold_in : List (List ℕ) → HoldRow → Hold
-hold_in names row =
+-- the hold of a row and its transaction's token, over these names
+abbrev pub hold_in : List (List ℕ) → List ℕ → HoldRow → Hold
+hold_in names token row =
     record {
       txn = record {
-        token = row.token;
+        token = token;
         card = name_in names row.card;
         user = name_in names row.user;
         product = name_in names row.product;
@@ -45,3 +45,14 @@ pub record IsNamed (names : List (List ℕ)) (row : HoldRow) : Type 0 where
 abbrev pub AreNamed : List (List ℕ) → List HoldRow → Type 0
 AreNamed names [] = Unit {0}
 AreNamed names (row ∷ rows) = IsNamed names row × AreNamed names rows
+
+-- the holds of rows and their transactions' tokens
+abbrev pub holds_in : List (List ℕ) → List (List ℕ) → List HoldRow → List Hold
+holds_in names [] rows = []
+holds_in names (token ∷ tokens) [] = []
+holds_in names (token ∷ tokens) (row ∷ rows) = hold_in names token row ∷ holds_in names tokens rows
+
+-- each row has its names, and a token at its place
+pub record AreKept (names : List (List ℕ)) (tokens : List (List ℕ)) (rows : List HoldRow) : Type 0 where
+  pub named : AreNamed names rows
+  pub even : length tokens ≡ length rows

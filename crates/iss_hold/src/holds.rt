@@ -21,7 +21,6 @@ use crate::hold::{Hold, Taken};
 use crate::indexes::{sum_of, user_key};
 use crate::list::HoldList;
 use crate::table::Table;
-use iss_index::Names;
 use iss_model::{Currency, Part, Token, Txn, TxnSums};
 use std::alloc::{AllocError, Global};
 use std::collections::BTreeMap;
@@ -59,7 +58,6 @@ impl Holds {
         Ok(Holds {
             table: Table {
                 holds: HoldList::new(alloc),
-                places: Names::new(alloc),
                 sums: BTreeMap::new(alloc),
                 order: BTreeMap::new(alloc),
             },
@@ -73,7 +71,6 @@ impl Holds {
         Ok(Holds {
             table: Table {
                 holds: HoldList::with_room(alloc, count)?,
-                places: Names::with_room(alloc, count)?,
                 sums: BTreeMap::new(alloc),
                 order: BTreeMap::new(alloc),
             },
@@ -93,7 +90,7 @@ impl Holds {
         ensures parts { IfSome result (λ hold. parts_of_hold hold ≡ parts_in self.now txn.now) }
         ensures small { IfSome result (λ hold. whole_of hold < 2 ^ 62) }
     {
-        let place = self.table.places.find(txn)?;
+        let place = self.table.holds.find(txn)?;
         Some(self.table.holds.at(place as usize))
     }
 
@@ -102,7 +99,7 @@ impl Holds {
         ensures place { result ≡ place_in txn.now (tokens self.now.txns) }
         ensures once { IsDistinct bytes_eq (tokens self.now.txns) }
     {
-        let place = self.table.places.find(txn)?;
+        let place = self.table.holds.find(txn)?;
         Some(place as usize)
     }
 

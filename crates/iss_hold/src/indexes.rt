@@ -1,12 +1,13 @@
-//! The indexes beside the holds: places by token, sums by user and currency, and expiries in their order.
+//! The indexes beside the holds: sums by user and currency, and expiries in their order.
 ghost use Rattle.std.specs.Prelude.{◌≡◌, ◌≤◌, ◌<◌, ◌+◌, ◌-◌, ◌^◌, ℕ, List, [], ◌∷◌, ◌++◌, Some, None, IsSome, IfOk, OnOk, OnErr};
 ghost use Rattle.std.specs.BTreeMap as tree;
 ghost use Rattle.iss_model.specs.Currencies.{iso_number};
-ghost use Rattle.iss_hold.specs.Indexes.{by_user, by_later};
+ghost use Rattle.iss_hold.specs.Holdings.{begun};
+ghost use Rattle.iss_hold.specs.Indexes.{by_user, by_later, names};
 ghost use Rattle.iss_index.specs.Places.{place_of};
 ghost use Rattle.iss_hold.specs.Sums.{sum_in};
 
-use iss_index::Names;
+use crate::list::HoldList;
 use iss_model::{Currency, Token, Txn};
 use std::alloc::AllocError;
 use std::cmp::Reverse;
@@ -65,24 +66,24 @@ pub(crate) fn place_after(count: usize) -> Result<u32, AllocError>
     u32::try_from(count).map_err(|_| AllocError)
 }
 
-/// Enters a transaction's place, by its expiry and by its token, or neither if an allocation fails.
+/// Adds the hold of a transaction that begins, and enters its place by its expiry, or neither if an allocation fails.
 pub(crate) fn enter(
-    places: &mut Names,
+    holds: &mut HoldList,
     order: &mut BTreeMap<Reverse<(u64, u32)>, u32>,
     txn: &Txn,
     place: u32,
 ) -> Result<(), AllocError>
-    requires unknown { place_of txn.now.token places.old ≡ None }
+    requires unknown { place_of txn.now.token (names holds.old) ≡ None }
     requires unordered { tree.get by_later order.old (record { 0 = (txn.now.expires, txn.now.origin) }) ≡ None }
-    ensures placed { OnOk result (places.new ≡ places.old ++ txn.now.token ∷ []) }
+    ensures added { OnOk result (holds.new ≡ holds.old ++ begun txn.now ∷ []) }
     ensures entered { OnOk result (order.new.entries ≡ tree.insert_entry by_later order.old.entries (record { 0 = (txn.now.expires, txn.now.origin) }) place) }
     ensures rising { tree.IsOrdered by_later order.old → tree.IsOrdered by_later order.new }
-    ensures places_stay { OnErr result (places.new ≡ places.old) }
+    ensures holds_stay { OnErr result (holds.new ≡ holds.old) }
     ensures order_stays { OnErr result (order.new.entries ≡ order.old.entries) }
 {
     let expiry = Reverse((txn.expires, txn.origin));
     order.insert(expiry, place)?;
-    let Ok(_) = places.add(&txn.token) else {
+    let Ok(()) = holds.add(txn) else {
         order.remove(&expiry);
         return Err(AllocError);
     };

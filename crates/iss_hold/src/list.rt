@@ -1,8 +1,10 @@
 //! Holds in a list that keeps each name once.
-ghost use Rattle.std.specs.Prelude.{◌≡◌, ◌<◌, ◌^◌, [], ◌∷◌, ◌++◌, Some, IfOk, OnOk, OnErr, length, set, take, slice_get};
+ghost use Rattle.std.specs.Prelude.{◌≡◌, ◌<◌, ◌^◌, [], ◌∷◌, ◌++◌, None, Some, IfOk, OnOk, OnErr, length, set, slice_get};
 ghost use Rattle.std.specs.Option.{option_map};
+ghost use Rattle.iss_index.specs.Places.{place_of};
 ghost use Rattle.iss_hold.specs.declared.hold.Hold.{Hold};
 ghost use Rattle.iss_hold.specs.Holdings.{begun, whole_of};
+ghost use Rattle.iss_hold.specs.Indexes.{names};
 ghost use Rattle.iss_hold.specs.Named.{hold_in, IsNamed, IsGrown};
 
 use crate::hold::Hold;
@@ -11,11 +13,10 @@ use iss_model::{Currency, Funding, Token, Txn};
 use std::alloc::{AllocError, Global};
 use std::marker::Model;
 
-/// A hold, with the places of its transaction's names in place of the names.
+/// A hold, with the places of its transaction's names in place of the names. The transaction's own token stands at the same
+/// place as the row, in a list of its own.
 #[derive(Clone, Copy)]
 pub(crate) struct HoldRow {
-    token: Token,
-    // These three fill a word with the token's 37 bytes.
     live: bool,
     currency: Currency,
     funding: Funding,
@@ -37,19 +38,20 @@ pub(crate) struct HoldRow {
 pub(crate) struct HoldList {
     rows: Vec<HoldRow>,
     names: Names,
+    tokens: Names,
 }
 
 impl Model for HoldList {
-    ghost use Rattle.std.specs.Prelude.{List, map};
+    ghost use Rattle.std.specs.Prelude.{List};
     ghost use Rattle.iss_hold.specs.declared.hold.Hold.{Hold};
 
     ghost Value = { List Hold };
 
-    ghost use Rattle.iss_hold.specs.Named.{hold_in, AreNamed};
+    ghost use Rattle.iss_hold.specs.Named.{holds_in, AreKept};
 
-    ghost view = { λ l. map (hold_in l.names) l.rows.items };
+    ghost view = { λ l. holds_in l.names l.tokens l.rows.items };
 
-    ghost invariant = { λ l. AreNamed l.names l.rows.items };
+    ghost invariant = { λ l. AreKept l.names l.tokens l.rows.items };
 }
 
 impl HoldList {
@@ -60,6 +62,7 @@ impl HoldList {
         HoldList {
             rows: Vec::new(alloc),
             names: Names::new(alloc),
+            tokens: Names::new(alloc),
         }
     }
 
@@ -70,6 +73,7 @@ impl HoldList {
         Ok(HoldList {
             rows: Vec::with_capacity(alloc, count)?,
             names: Names::new(alloc),
+            tokens: Names::with_room(alloc, count)?,
         })
     }
 
@@ -79,12 +83,26 @@ impl HoldList {
         self.rows.len()
     }
 
+    /// The place of a transaction, or `None` if it has no hold.
+    pub(crate) fn find(&self, txn: &Token) -> Option<u32>
+        ensures { result ≡ place_of txn.now (names self.now) }
+    {
+        self.tokens.find(txn)
+    }
+
+    /// The place of a transaction that is likely to be the last one, or `None` if it has no hold.
+    pub(crate) fn find_last(&self, txn: &Token) -> Option<u32>
+        ensures { result ≡ place_of txn.now (names self.now) }
+    {
+        self.tokens.find_last(txn)
+    }
+
     /// The hold at a place.
     pub(crate) fn at(&self, place: usize) -> Hold
         requires { place < length self.now }
         ensures { slice_get self.now place ≡ Some result }
     {
-        hold_of(&self.names, &self.rows[place])
+        hold_of(&self.names, self.tokens.at(place), &self.rows[place])
     }
 
     /// All that the hold at a place holds, in minor units.
@@ -99,11 +117,13 @@ impl HoldList {
 
     /// Adds the hold of a transaction that begins. If an allocation fails, all stays as it was.
     pub(crate) fn add(&mut self, txn: &Txn) -> Result<(), AllocError>
+        requires { place_of txn.now.token (names self.old) ≡ None }
         ensures added { OnOk result (self.new ≡ self.old ++ begun txn.now ∷ []) }
         ensures refused { OnErr result (self.new ≡ self.old) }
     {
         self.rows.reserve(1)?;
         let row = row_of(&mut self.names, txn, last_names(&self.rows))?;
+        self.tokens.add(&txn.token)?;
         self.rows.push(row)?;
         Ok(())
     }
@@ -115,13 +135,6 @@ impl HoldList {
     {
         let row = self.rows[place];
         self.rows[place] = row.with_parts(hold);
-    }
-
-    /// Takes the holds from a place on away.
-    pub(crate) fn shorten(&mut self, place: usize)
-        ensures { self.new ≡ take place self.old }
-    {
-        self.rows.truncate(place);
     }
 }
 
@@ -140,13 +153,13 @@ impl HoldRow {
     }
 }
 
-/// The hold of a row.
-fn hold_of(names: &Names, row: &HoldRow) -> Hold
+/// The hold of a row and its transaction's token.
+fn hold_of(names: &Names, token: &Token, row: &HoldRow) -> Hold
     requires { IsNamed names.now row.now }
-    ensures { result ≡ hold_in names.now row.now }
+    ensures { result ≡ hold_in names.now token.now row.now }
 {
     let txn = Txn {
-        token: row.token,
+        token: *token,
         card: *names.at(row.card as usize),
         user: *names.at(row.user as usize),
         product: *names.at(row.product as usize),
@@ -179,14 +192,13 @@ fn last_names(rows: &[HoldRow]) -> [u32; 4] {
 fn row_of(names: &mut Names, txn: &Txn, likely: [u32; 4]) -> Result<HoldRow, AllocError>
     ensures grown { IsGrown names.old names.new }
     ensures named { IfOk result (λ row. IsNamed names.new row) }
-    ensures begun { IfOk result (λ row. hold_in names.new row ≡ begun txn.now) }
+    ensures begun { IfOk result (λ row. hold_in names.new txn.now.token row ≡ begun txn.now) }
 {
     let card = place_of(names, &txn.card, likely[0])?;
     let user = place_of(names, &txn.user, likely[1])?;
     let product = place_of(names, &txn.product, likely[2])?;
     let mid = place_of(names, &txn.mid, likely[3])?;
     Ok(HoldRow {
-        token: txn.token,
         card,
         user,
         product,

@@ -13,18 +13,16 @@ ghost use Rattle.iss_hold.specs.Restoring.{hold_with, live_with};
 use crate::hold::Hold;
 use crate::indexes::{begin_sum, change_sum, enter, place_after, user_key};
 use crate::list::HoldList;
-use iss_index::Names;
 use iss_model::{Token, Txn, TxnSums};
 use std::alloc::{AllocError, Global};
 use std::cmp::Reverse;
 use std::collections::BTreeMap;
 
-/// What the transactions hold, in the order in which they began. Their places are kept too, with the sums of their users
-/// and the places of the live ones by expiry.
+/// What the transactions hold, in the order in which they began, with the sums of their users and the places of the live
+/// ones by expiry.
 #[derive(Drop)]
 pub(crate) struct Table {
     pub(crate) holds: HoldList,
-    pub(crate) places: Names,
     pub(crate) sums: BTreeMap<(Token, u16), u64>,
     pub(crate) order: BTreeMap<Reverse<(u64, u32)>, u32>,
 }
@@ -36,7 +34,7 @@ impl Table {
         requires started { IsSome (txn_named txn.now (map txn_of_hold self.now.holds)) }
         ensures { IsAt txn.now self.now.holds result.0 result.1 }
     {
-        match self.places.find_last(txn) {
+        match self.holds.find_last(txn) {
             Some(place) => (place as usize, self.holds.at(place as usize)),
             None => unreachable!(),
         }
@@ -67,14 +65,8 @@ impl Table {
     {
         let place = place_after(self.holds.len())?;
         begin_sum(&mut self.sums, user_key(&txn.user, txn.currency))?;
-        self.holds.add(txn)?;
-        match enter(&mut self.places, &mut self.order, txn, place) {
-            Ok(()) => Ok(()),
-            Err(refused) => {
-                self.holds.shorten(place as usize);
-                Err(refused)
-            }
-        }
+        enter(&mut self.holds, &mut self.order, txn, place)?;
+        Ok(())
     }
 
     /// Ends the transaction at a place.

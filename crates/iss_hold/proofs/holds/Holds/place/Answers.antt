@@ -8,7 +8,7 @@ use Rattle.iss_hold.proofs.holds.Holds.place.Goals as goal
 
 pub returns-clause-place : goal.returns-clause-place
 returns-clause-place c =
-    c.in_ok-place.ensures.value ∙ place_is c.self.invariant.placed c.args.txn.now
+    c.in_ok-place.ensures ∙ place_is c.self.invariant.placed c.args.txn.now
     ∙ ap (λ (ns : List (List ℕ)). place_in c.args.txn.now ns) (same_names c.self.inside.table.holds c.self.view_is)
 
 pub returns-clause-once : goal.returns-clause-once
@@ -17,7 +17,7 @@ returns-clause-once c = subst (λ (ns : List (List ℕ)). IsDistinct bytes_eq ns
 pub returns-in_err-place-clause-place : goal.returns-in_err-place-clause-place
 returns-in_err-place-clause-place c =
     let failed : c.from_residual.result ≡ None = search rules in
-    failed ∙ c.in_err-place.ensures.value ∙ place_is c.self.invariant.placed c.args.txn.now
+    failed ∙ c.in_err-place.ensures ∙ place_is c.self.invariant.placed c.args.txn.now
     ∙ ap (λ (ns : List (List ℕ)). place_in c.args.txn.now ns) (same_names c.self.inside.table.holds c.self.view_is)
 
 pub returns-in_err-place-clause-once : goal.returns-in_err-place-clause-once

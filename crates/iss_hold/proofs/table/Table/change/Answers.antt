@@ -4,10 +4,10 @@ use Rattle.std.specs.Option.{option_map}
 use Rattle.iss_model.specs.rules.Activity.{TxnNow}
 use Rattle.iss_hold.specs.declared.hold.Hold.{Hold}
 use Rattle.iss_hold.specs.Holdings.{txn_of_hold}
-use Rattle.iss_hold.specs.Indexes.{AreIndexed}
+use Rattle.iss_hold.specs.Indexes.{AreIndexed, names}
 use Rattle.iss_hold.proofs.Places.{replaced, stood, stood_inside}
 use Rattle.iss_hold.proofs.Changes.{whole_before, before_small, whole_after, held_there, sum_before, sum_after, sum_stands, summed_after}
-use Rattle.iss_hold.proofs.IndexesKept.{indexed_set}
+use Rattle.iss_hold.proofs.IndexesKept.{indexed_own, indexed_set}
 use Rattle.iss_hold.proofs.table.Table.change.Goals as goal
 
 pub whole_at-before-requires-clause-there : goal.whole_at-before-requires-clause-there
@@ -56,6 +56,7 @@ put-requires c =
 pub returns-clause-indexed : goal.returns-clause-indexed
 returns-clause-indexed c =
     let s = stood c.args.self.now.holds c.args.place c.args.hold c.requires.same in
-    subst (λ (hs : List Hold). AreIndexed hs c.args.self.now.places c.change_sum.new.sums c.args.self.now.order) (sym c.put.ensures)
+    subst (λ (hs : List Hold). AreIndexed hs (names hs) c.change_sum.new.sums c.args.self.now.order) (sym c.put.ensures)
+    (indexed_own
     (indexed_set c.requires.indexed s
-    (summed_after c.requires.indexed.summed s c.user_key-user.ensures c.change_sum.ensures (held_there c.requires.indexed.summed s c.whole_at-before.ensures) c.whole.ensures c.requires.low))
+    (summed_after c.requires.indexed.summed s c.user_key-user.ensures c.change_sum.ensures (held_there c.requires.indexed.summed s c.whole_at-before.ensures) c.whole.ensures c.requires.low)))

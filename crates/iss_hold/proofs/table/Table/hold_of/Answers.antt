@@ -7,14 +7,14 @@ use Rattle.iss_hold.proofs.HoldCalls.{not_started}
 use Rattle.iss_hold.proofs.table.Table.hold_of.Goals as goal
 
 pub at-requires : goal.at-requires
-at-requires c = inside c.args.txn.now c.requires.indexed.placed c.in-Some.ensures.value
+at-requires c = inside c.args.txn.now c.requires.indexed.placed c.in-Some.ensures
 
 pub unreachable-requires : goal.unreachable-requires
 unreachable-requires c =
-    never (txn_named c.args.txn.now (map txn_of_hold c.args.self.now.holds)) (not_started c.args.txn.now c.requires.indexed.placed c.in-None.ensures.value) c.requires.started
+    never (txn_named c.args.txn.now (map txn_of_hold c.args.self.now.holds)) (not_started c.args.txn.now c.requires.indexed.placed c.in-None.ensures) c.requires.started
   where
     never : (o : Option TxnNow) → o ≡ None → IsSome o → ⊥
     never o e h = cc
 
 pub returns : goal.returns
-returns c = is_at c.requires.indexed.placed c.in-Some.ensures.value c.at.ensures
+returns c = is_at c.requires.indexed.placed c.in-Some.ensures c.at.ensures
