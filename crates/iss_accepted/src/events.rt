@@ -119,6 +119,7 @@ impl Events {
 
     /// Adds the input of a record, if it is an event. If an allocation fails, all stays as it was, and so if
     /// 2^32 - 1 events stand, as many as places are kept for, or if the record's spelling takes 2^32 bytes.
+    #[inline(always)]
     pub fn add(&mut self, number: u32, at: u64, input: &Input) -> Result<(), AllocError>
         requires form { IsTrue (is_in_form input.now) }
         requires stamp { IsTrue (is_stamp at) }

@@ -128,6 +128,7 @@ fn usage(txn: &Txn, amount: i64, count: i64, at: u64) -> UsageRow
 
 impl State {
     /// Why an ask is declined by what it asks for: the control that it breaches, or the funds that its user lacks.
+    #[inline(always)]
     pub(crate) fn ask_reason(&self, ask: &Ask) -> Option<Reason>
         requires amount { IsTrue (is_amount ask.now.amount) }
         requires stamp { IsTrue (is_stamp ask.now.at) }
@@ -161,6 +162,7 @@ impl State {
     }
 
     /// An ask is paid from the user's own balance, which is held, or the gateway decides.
+    #[inline(always)]
     pub(crate) fn put_funding(&self, out: &mut Vec<Entry>, ask: &Ask) -> Result<(), AllocError>
         requires order { IsInOrder (kept_state self.now) }
         requires amount { IsTrue (is_amount ask.now.amount) }

@@ -10,6 +10,7 @@ use std::alloc::{AllocError, Global};
 
 impl State {
     /// Enters entries one after the other.
+    #[inline(always)]
     pub(crate) fn enter_all(&mut self, alloc: Global, entries: &[Entry]) -> Result<(), AllocError>
         requires { MayAllEnter (kept_state self.old) entries.now }
         ensures { OnOk result (kept_state self.new ≡ fold after_entry (kept_state self.old) entries.now) }
@@ -59,6 +60,7 @@ impl State {
         let _closed = self.calls.close(call, how);
     }
 
+    #[inline(never)]
     fn acknowledge(&mut self, notice: u32)
         ensures { self.new ≡ record self.old { notices = with_acked self.old.notices notice } }
     {

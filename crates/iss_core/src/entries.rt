@@ -188,6 +188,7 @@ impl State {
     }
 
     /// A notice is acknowledged; a notice that was never made isn't.
+    #[inline(never)]
     fn put_acknowledgement(&self, out: &mut Vec<Entry>, notice: u32) -> Result<(), AllocError>
         ensures { OnOk result (out.new.items ≡ out.old.items ++ entries_of_acts (acknowledgement_acts (facts_of self.now) notice)) }
     {

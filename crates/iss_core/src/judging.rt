@@ -53,6 +53,7 @@ impl State {
     }
 
     /// An input that has no answer is new. One that has an answer receives it, after a time record if something is due.
+    #[inline(always)]
     fn judged(&self, answer: Option<Answer>, input: &Input, at: u64) -> Result<Judged, AllocError>
         requires { is_ack input.now ≡ false }
         ensures { IfOk result (λ j. j ≡ judgement_as answer (is_quiet (due_items (facts_of self.now) at)) input.now at) }
@@ -99,6 +100,7 @@ impl State {
     }
 
     /// The answer to an acknowledgement of a notice that was never made, or is acknowledged.
+    #[inline(never)]
     fn notice_answer(&self, notice: u32) -> Option<Answer>
         ensures { result ≡ notice_answer (facts_of self.now) notice }
     {

@@ -56,6 +56,7 @@ impl Operation {
 
 impl State {
     /// An increment is declined, or counts as use and seeks funding.
+    #[inline(never)]
     pub(crate) fn put_increment(
         &self,
         alloc: Global,
@@ -252,6 +253,7 @@ impl State {
     }
 
     /// A refund is declined, or comes back from the network, and is paid back for a product that a gateway funds.
+    #[inline(never)]
     pub(crate) fn put_refund(
         &self,
         out: &mut Vec<Entry>,

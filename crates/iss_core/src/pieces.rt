@@ -160,6 +160,7 @@ pub(crate) fn put_funded_ask(out: &mut Vec<Entry>, ask: &Ask) -> Result<(), Allo
 }
 
 /// A part of a call's amount is there and held, the use of the rest returned, and the call's event approved for the part.
+#[inline(never)]
 pub(crate) fn put_part_funded(
     out: &mut Vec<Entry>,
     opened: &Opened,

@@ -29,6 +29,7 @@ pub(crate) struct Table {
 
 impl Table {
     /// The place of a transaction that was started, and what it holds.
+    #[inline(always)]
     pub(crate) fn hold_of(&self, txn: &Token) -> (usize, Hold)
         requires indexed { IsIndexed self.now }
         requires started { IsSome (txn_named txn.now (map txn_of_hold self.now.holds)) }
@@ -41,6 +42,7 @@ impl Table {
     }
 
     /// Puts a hold in the place of another of its transaction, and changes its user's sum by as much.
+    #[inline(always)]
     pub(crate) fn change(&mut self, place: usize, hold: Hold)
         requires indexed { IsIndexed self.old }
         requires same { option_map txn_of_hold (slice_get self.old.holds place) ≡ Some (txn_of_hold hold) }
@@ -55,6 +57,7 @@ impl Table {
     }
 
     /// Begins a transaction. If an allocation fails, the holds stay as they were.
+    #[inline(always)]
     pub(crate) fn start(&mut self, txn: &Txn) -> Result<(), AllocError>
         requires indexed { IsIndexed self.old }
         requires unknown { txn_named txn.now.token (map txn_of_hold self.old.holds) ≡ None }

@@ -65,6 +65,7 @@ impl Ledger {
     }
 
     /// What an account has, in minor units: 0 if no post was made.
+    #[inline(always)]
     pub fn balance(&self, account: &Account) -> i64
         ensures { result ≡ kept_at self.now (account_key account.now) }
     {

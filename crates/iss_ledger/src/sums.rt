@@ -104,6 +104,8 @@ fn change(
 }
 
 /// Takes what was added to the sum at a key away again, and the key too if it didn't stand before.
+#[cold]
+#[inline(never)]
 #[tactic(auto, using(crate::proofs::TreeSums::sums_put, crate::proofs::TreeSums::sums_taken))]
 fn take_back(sums: &mut BTreeMap<AccountKey, i64>, key: &AccountKey, by: i64, stood: bool)
     requires order { IsInOrder sums.old }
