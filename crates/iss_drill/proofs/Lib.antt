@@ -8,3 +8,4 @@ pub mod Courses
 pub mod Totals
 pub mod Sending
 pub mod Holdings
+pub mod Blanks

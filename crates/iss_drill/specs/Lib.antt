@@ -6,3 +6,4 @@ pub mod Drills
 pub mod Tallies
 pub mod Giving
 pub mod Reports
+pub mod Blanks

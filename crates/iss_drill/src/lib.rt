@@ -4,6 +4,7 @@
 //! It must not cite lines that come in, nor the real outside: its one text goes out on any `Edge`.
 #![tactic(auto)]
 
+mod blank;
 mod device;
 mod events;
 mod fault;

@@ -1,5 +1,5 @@
 //! A drill, from an empty device to its line.
-ghost use Rattle.std.specs.Prelude.{◌≡◌, ◌+◌, ◌*◌, ◌<◌, ◌≤◌, ◌^◌, [], ◌∷◌, ℕ, List, IfOk, OnOk, OnErr, IsTrue, IsSomeAnd, vec_len};
+ghost use Rattle.std.specs.Prelude.{◌≡◌, ◌+◌, ◌*◌, ◌<◌, ◌≤◌, ◌^◌, [], ◌∷◌, ℕ, List, IfOk, OnOk, OnErr, IsTrue, IsSomeAnd};
 ghost use Rattle.iss_edge.specs.World.{Told};
 ghost use Rattle.iss_journal.specs.declared.layout.TheConstants.{LEAST_SIZE, GREATEST_SIZE};
 ghost use Rattle.iss_model.specs.Forms.{is_in_form};
@@ -12,6 +12,7 @@ ghost use Rattle.iss_drill.specs.Tallies.{IsFew};
 ghost use Rattle.iss_drill.specs.Giving.{Gives, GivesSetup, GivesEvent};
 
 use crate::DrillFault;
+use crate::blank::Blank;
 use crate::device::Quiet;
 use crate::events::{next_event, outcome_of};
 use crate::generator::Generator;
@@ -19,7 +20,7 @@ use crate::giving::give;
 use crate::report::{drill_line, taken_together};
 use crate::setup::{INPUTS, setup_input};
 use crate::tally::Tally;
-use iss_edge::{Channel, Edge, MemoryEdge};
+use iss_edge::{Channel, Edge};
 use iss_journal::Journal;
 use iss_model::Input;
 use iss_store::Store;
@@ -72,10 +73,9 @@ fn fresh_store(alloc: Global, size: u32) -> Result<(Store, Quiet), AllocError>
     ensures size { IfOk result (λ x. x.0.layout.size ≡ size) }
     ensures extent { IfOk result (λ x. ⟦<Quiet as Edge>⟧.extent x.1 ≡ size) }
 {
-    let bytes = vec![in alloc; 0; size as usize]?;
-    let mut formatted = device_in_memory(alloc, bytes)?;
-    let store = format_and_open(alloc, &mut formatted)?;
-    let device = Quiet::new(formatted.device().to_vec(alloc)?);
+    let mut blank = Blank::new(alloc, u64::from(size))?;
+    let store = format_and_open(alloc, &mut blank)?;
+    let device = Quiet::new(blank.size(), blank.first().to_vec(alloc)?);
     Ok((store, device))
 }
 
@@ -96,15 +96,6 @@ fn format_and_open<E: Edge>(alloc: Global, edge: &mut E) -> Result<Store, AllocE
         Ok(store) => Ok(store),
         Err(_) => Err(AllocError),
     }
-}
-
-/// A device in memory that tells what is done.
-fn device_in_memory(alloc: Global, bytes: Vec<u8>) -> Result<MemoryEdge, AllocError>
-    ensures device { IfOk result (λ m. IsSomeAnd (⟦<MemoryEdge as Edge>⟧.told m) (λ world. world.device ≡ bytes.items)) }
-    ensures extent { IfOk result (λ m. ⟦<MemoryEdge as Edge>⟧.extent m ≡ vec_len bytes) }
-{
-    let nothing = Vec::new(alloc);
-    MemoryEdge::new(alloc, bytes, nothing, Vec::new(alloc), Vec::new(alloc))
 }
 
 /// Gives the store the inputs that a drill begins with.

@@ -1,4 +1,4 @@
 use Rattle.iss_drill.proofs.run.fresh_store.Goals as goal
 
 pub returns-clause-opened : goal.returns-clause-opened
-returns-clause-opened c = c.in_ok-store.ensures.opened c.device.result.now c.device.ensures
+returns-clause-opened c = c.in_ok-store.ensures.opened _ c.first.ensures

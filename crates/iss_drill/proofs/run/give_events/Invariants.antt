@@ -1,6 +1,5 @@
-use Rattle.std.specs.Prelude.{vec_len}
 use Rattle.iss_drill.proofs.Courses.{IsUnderWay}
 use Rattle.iss_drill.proofs.run.give_events.Given as goal
 
 abbrev pub invariant-events : goal.invariant-events
-invariant-events l = IsUnderWay l.n l.before l.generator.state l.last l.fn.tally l.tally l.fn.ready l.store (vec_len l.device.bytes)
+invariant-events l = IsUnderWay l.n l.before l.generator.state l.last l.fn.tally l.tally l.fn.ready l.store l.device.size
