@@ -20,6 +20,7 @@ use std::alloc::{AllocError, Global};
 pub(crate) fn give<E: Edge>(
     alloc: Global,
     store: Store,
+    routes: &mut Routes,
     device: &mut E,
     input: &Input,
     at: u64,
@@ -40,7 +41,7 @@ pub(crate) fn give<E: Edge>(
     ensures kept { E.extent device.new ≡ E.extent device.old }
     ensures size { IfOk result (λ x. x.0.layout.size ≡ store.layout.size) }
 {
-    let taken = take(alloc, store, device, input, at, tally)?;
+    let taken = take(alloc, store, routes, device, input, at, tally)?;
     tally.lines += 1;
     Ok(taken)
 }
@@ -49,6 +50,7 @@ pub(crate) fn give<E: Edge>(
 fn take<E: Edge>(
     alloc: Global,
     mut store: Store,
+    routes: &mut Routes,
     device: &mut E,
     input: &Input,
     at: u64,
@@ -69,15 +71,15 @@ fn take<E: Edge>(
     match store.plan(alloc, input, at) {
         Ok(planned) => {
             let more = planned.more();
-            let (next, opened) = keep(alloc, store, device, planned, tally)?;
+            let (next, opened) = keep(alloc, store, routes, device, planned, tally)?;
             if !more {
                 return Ok((next, opened));
             }
-            tell_left(alloc, &next, device, input, at, tally)?;
+            tell_left(alloc, &next, routes, device, input, at, tally)?;
             Ok((next, opened))
         }
         Err(PlanFault::Told(answer)) => {
-            tell(alloc, &store, device, &answer, tally)?;
+            tell(alloc, &store, routes, device, &answer, tally)?;
             Ok((store, None))
         }
         Err(PlanFault::OutOfMemory) => Err(AllocError),
@@ -88,6 +90,7 @@ fn take<E: Edge>(
 fn keep<E: Edge>(
     alloc: Global,
     store: Store,
+    routes: &mut Routes,
     device: &mut E,
     planned: Planned,
     tally: &mut Tally,
@@ -109,7 +112,7 @@ fn keep<E: Edge>(
     };
     tally.count(durable.entries());
     let opened = call_opened(durable.entries());
-    match next.release(alloc, device, durable, &mut Routes::lines(alloc)) {
+    match next.release(alloc, device, durable, routes) {
         Ok(_) => Ok((next, opened)),
         Err(_) => Err(AllocError),
     }
@@ -119,6 +122,7 @@ fn keep<E: Edge>(
 fn tell_left<E: Edge>(
     alloc: Global,
     store: &Store,
+    routes: &mut Routes,
     device: &mut E,
     input: &Input,
     at: u64,
@@ -132,7 +136,7 @@ fn tell_left<E: Edge>(
     ensures kept { E.extent device.new ≡ E.extent device.old }
 {
     match store.core().judge(alloc, input, at)? {
-        Judged::Told(answer) => tell(alloc, store, device, &answer, tally),
+        Judged::Told(answer) => tell(alloc, store, routes, device, &answer, tally),
         Judged::New(_) => Ok(()),
         Judged::Clock(_) => Ok(()),
     }
@@ -142,6 +146,7 @@ fn tell_left<E: Edge>(
 fn tell<E: Edge>(
     alloc: Global,
     store: &Store,
+    routes: &mut Routes,
     device: &mut E,
     answer: &Answer,
     tally: &mut Tally,
@@ -151,7 +156,7 @@ fn tell<E: Edge>(
     ensures kept { E.extent device.new ≡ E.extent device.old }
 {
     tally.count_answer(answer);
-    match store.tell(alloc, device, &mut Routes::lines(alloc), Channel(0), answer) {
+    match store.tell(alloc, device, routes, Channel(0), answer) {
         Ok(()) => Ok(()),
         Err(_) => Err(AllocError),
     }

@@ -23,7 +23,7 @@ use crate::tally::Tally;
 use iss_edge::{Channel, Edge};
 use iss_journal::Journal;
 use iss_model::Input;
-use iss_store::Store;
+use iss_store::{Routes, Store};
 use std::alloc::{AllocError, Global};
 
 /// What a device has for the set-up, in bytes.
@@ -60,8 +60,9 @@ fn drilled(alloc: Global, n: u32) -> Result<Vec<u8>, AllocError>
 {
     let mut tally = Tally::new();
     let (fresh, mut device) = fresh_store(alloc, FOR_ALL + FOR_EACH * n)?;
-    let ready = set_up(alloc, fresh, &mut device, &mut tally)?;
-    let store = give_events(alloc, n, ready, &mut device, &mut tally)?;
+    let mut routes = Routes::lines(alloc);
+    let ready = set_up(alloc, fresh, &mut routes, &mut device, &mut tally)?;
+    let store = give_events(alloc, n, ready, &mut routes, &mut device, &mut tally)?;
     let totals = taken_together(store.core(), &tally);
     drill_line(alloc, &totals)
 }
@@ -102,6 +103,7 @@ fn format_and_open<E: Edge>(alloc: Global, edge: &mut E) -> Result<Store, AllocE
 fn set_up(
     alloc: Global,
     fresh: Store,
+    routes: &mut Routes,
     device: &mut Quiet,
     tally: &mut Tally,
 ) -> Result<Store, AllocError>
@@ -116,7 +118,7 @@ fn set_up(
 {
     let mut store = fresh;
     'inputs: for number in 0..INPUTS {
-        store = give_setup(alloc, store, device, number + 1, tally)?;
+        store = give_setup(alloc, store, routes, device, number + 1, tally)?;
     }
     Ok(store)
 }
@@ -125,6 +127,7 @@ fn set_up(
 fn give_setup(
     alloc: Global,
     store: Store,
+    routes: &mut Routes,
     device: &mut Quiet,
     number: u32,
     tally: &mut Tally,
@@ -140,7 +143,7 @@ fn give_setup(
     ensures kept { ⟦<Quiet as Edge>⟧.extent device.new ≡ ⟦<Quiet as Edge>⟧.extent device.old }
     ensures size { IfOk result (λ s. s.layout.size ≡ store.layout.size) }
 {
-    let (next, _) = give(alloc, store, device, &setup_input(number), 0, tally)?;
+    let (next, _) = give(alloc, store, routes, device, &setup_input(number), 0, tally)?;
     Ok(next)
 }
 
@@ -149,6 +152,7 @@ fn give_events(
     alloc: Global,
     n: u32,
     ready: Store,
+    routes: &mut Routes,
     device: &mut Quiet,
     tally: &mut Tally,
 ) -> Result<Store, AllocError>
@@ -166,7 +170,7 @@ fn give_events(
         let number = before + 1;
         let drawn = generator.draw();
         last = next_event(number, drawn, last);
-        store = give_event(alloc, store, device, &last, number, drawn, tally)?;
+        store = give_event(alloc, store, routes, device, &last, number, drawn, tally)?;
     }
     Ok(store)
 }
@@ -175,6 +179,7 @@ fn give_events(
 fn give_event(
     alloc: Global,
     store: Store,
+    routes: &mut Routes,
     device: &mut Quiet,
     event: &Input,
     number: u32,
@@ -193,12 +198,12 @@ fn give_event(
     ensures size { IfOk result (λ s. s.layout.size ≡ store.layout.size) }
 {
     let at = MINUTE * u64::from(number);
-    let (next, opened) = give(alloc, store, device, event, at, tally)?;
+    let (next, opened) = give(alloc, store, routes, device, event, at, tally)?;
     let Some(call) = opened else {
         return Ok(next);
     };
     let outcome = outcome_of(y);
     let answer = Input::Answer { call, outcome };
-    let (answered, _) = give(alloc, next, device, &answer, at, tally)?;
+    let (answered, _) = give(alloc, next, routes, device, &answer, at, tally)?;
     Ok(answered)
 }
