@@ -7,3 +7,4 @@ pub mod ValuesInForm
 pub mod Views
 pub mod PlainTexts
 pub mod PlainRead
+pub mod MembersRead

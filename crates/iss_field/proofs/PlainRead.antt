@@ -23,7 +23,7 @@ has_numbers (string s) h = tt
 has_numbers (array js) h = absurd h
 has_numbers (object ms) h = absurd h
 
-have_numbers : (ms : Members) → ArePlain ms → MembersHaveNumbers ms
+pub have_numbers : (ms : Members) → ArePlain ms → MembersHaveNumbers ms
 have_numbers no_members h = tt
 have_numbers (member k j ms) h = (has_numbers j h.0, have_numbers ms h.1)
 
@@ -35,12 +35,12 @@ flat (string s) h = refl
 flat (array js) h = absurd h
 flat (object ms) h = absurd h
 
-members_flat : (ms : Members) → ArePlain ms → members_depth ms ≡ 0
+pub members_flat : (ms : Members) → ArePlain ms → members_depth ms ≡ 0
 members_flat no_members h = refl
 members_flat (member k j ms) h = omega (arith, flat j h.0, members_flat ms h.1)
 
 -- the printed tokens of a plain value, and of what follows it
-value_printed : (j : Json) (ts : List Token) → IsPlainValue j → print_from false (json_tokens j ++ ts) ≡ plain_text j ++ print_from true ts
+pub value_printed : (j : Json) (ts : List Token) → IsPlainValue j → print_from false (json_tokens j ++ ts) ≡ plain_text j ++ print_from true ts
 unfolding print_from
 value_printed null ts h = absurd h
 value_printed (boolean b) ts h = refl
@@ -49,7 +49,7 @@ value_printed (string s) ts h = refl
 value_printed (array js) ts h = absurd h
 value_printed (object ms) ts h = absurd h
 
-colon_apart : (k rest : List ℕ) → (quoted k ++ 58 ∷ []) ++ rest ≡ quoted k ++ (58 ∷ rest)
+pub colon_apart : (k rest : List ℕ) → (quoted k ++ 58 ∷ []) ++ rest ≡ quoted k ++ (58 ∷ rest)
 colon_apart k rest = append_assoc (quoted k) (58 ∷ []) rest
 
 later_printed : (ms : Members) → ArePlain ms → print_from true (members_tokens ms) ≡ spelled false ms ++ 125 ∷ []
@@ -69,7 +69,7 @@ first_printed k j ms h =
     ∙ ap (λ l. quoted k ++ (58 ∷ l)) (value_printed j (members_tokens ms) h.0 ∙ ap (λ l. plain_text j ++ l) (later_printed ms h.1) ∙ sym (append_assoc (plain_text j) (spelled false ms) (125 ∷ [])))
     ∙ sym (append_assoc (quoted k) (58 ∷ (plain_text j ++ spelled false ms)) (125 ∷ [])))
 
-read_back : (j : Json) → HasNumbers j → depth j ≤ max_depth → json_text (print (json_tokens j)) ≡ Some j
+pub read_back : (j : Json) → HasNumbers j → depth j ≤ max_depth → json_text (print (json_tokens j)) ≡ Some j
 read_back j numbers shallow =
     ap (option_and_then (λ p. if_last p.0 p.1))
     (ap (value max_depth) (tokens-print (json_tokens j) (ArePrintable-json_tokens j numbers) ∙ sym (append-nil (json_tokens j)))

@@ -2,7 +2,7 @@
 use Rattle.std.proofs.Common.{◌≡◌, ℕ, zero, suc, ◌+◌, ◌<◌, ◌≤◌, Bool, true, false, not, cond, ◌==◌, ◌&&◌, nat_le, nat_lt, slice_range, List, [], ◌∷◌, ◌++◌, length, drop, take, get_or, option_and_then, Some, refl, sym, ap, ap₂, ◌∙◌, subst, arith, append_assoc, take-append-drop, ◌-◌}
 use Rattle.std.proofs.lemmas.Bool.{and_parts, eqb-false, leb-true, and_from, le-leb, ne_eqb, not-true}
 use Rattle.std.proofs.lemmas.List.{drop_all}
-use Rattle.std.specs.List.{prefix_len}
+use Rattle.std.specs.List.{list_all, prefix_len}
 use Rattle.std.specs.Char.{is_ascii_digit}
 use Rattle.json.specs.Word.{head, after_whole, after_fraction, after_exponent, after_number}
 use Rattle.json.specs.Print.{IsNumber, escape, quoted}
@@ -85,3 +85,57 @@ number_cut (a ∷ x ∷ xs) (suc zero) least long first = absurd (omega arith)
 number_cut (a ∷ x ∷ xs) (suc (suc n)) least long first =
     let before : suc n ≡ suc (suc n) - 1 = omega arith in
     ap (λ l. l ∷ x ∷ xs) first ∙ ap (λ l. 58 ∷ x ∷ l) (sym (take-append-drop n xs)) ∙ ap (λ k. 58 ∷ (take k (x ∷ xs) ++ drop n xs)) before
+
+-- a plain text in quotes comes first
+pub quoted_first : (d : List ℕ) (end : ℕ) → 1 ≤ length d → get_or d 0 0 ≡ 34 → end ≡ 1 + prefix_len is_plain_ascii (drop 1 d) → end < length d → get_or d end 0 ≡ 34 → d ≡ quoted (slice_range d 1 end) ++ drop (end + 1) d
+quoted_first [] end long first run bound mark = absurd (omega arith)
+quoted_first (a ∷ xs) zero long first run bound mark = absurd (omega arith)
+quoted_first (a ∷ xs) (suc n) long first run bound mark =
+    let before : n ≡ suc n - 1 = omega arith in
+    let after : suc (suc n) ≡ suc n + 1 = omega arith in
+    ap (λ l. l ∷ xs) first ∙ ap (drop 1) (quoted_at xs 0 n (omega arith) (omega arith) mark)
+    ∙ ap₂ (λ k m. quoted (take k xs) ++ drop m (a ∷ xs)) before after
+
+-- digits come first
+pub number_first : (d : List ℕ) (end : ℕ) → 1 ≤ length d → 49 ≤ get_or d 0 0 → get_or d 0 0 ≤ 57 → end ≡ 1 + prefix_len is_ascii_digit (drop 1 d) → IsNumber (take end d)
+number_first [] end long low high run = absurd (omega arith)
+number_first (x ∷ xs) zero long low high run = absurd (omega arith)
+number_first (x ∷ xs) (suc n) long low high run =
+    let same : n ≡ prefix_len is_ascii_digit xs = omega arith in
+    subst (λ k. IsNumber (x ∷ take k xs)) (sym same) (number_text x (take (prefix_len is_ascii_digit xs) xs) low high (digit_run xs))
+
+plain_byte : (b : Bool) (x : ℕ) (xs : List ℕ) → is_plain_byte x ≡ b → (b && list_all is_plain_byte xs) ≡ true → (list_all is_plain_byte xs ≡ true → escape xs ≡ xs) → escape (x ∷ xs) ≡ x ∷ xs
+plain_byte true x xs e all ih =
+    let tests = and_parts (nat_le 32 x && not (x == 34)) (not (x == 92)) e in
+    let firsts = and_parts (nat_le 32 x) (not (x == 34)) tests.0 in
+    λ i. escape_byte_plain x (eqb-false x 34 (not-true (x == 34) firsts.1)) (eqb-false x 92 (not-true (x == 92) tests.1)) (leb-true 32 x firsts.0) i ++ ih all i
+plain_byte false x xs e all ih = absurd (cc)
+
+-- JSON escapes nothing in a name
+pub plain_escaped : (xs : List ℕ) → list_all is_plain_byte xs ≡ true → escape xs ≡ xs
+plain_escaped [] h = refl
+plain_escaped (x ∷ xs) h = plain_byte (is_plain_byte x) x xs refl h (plain_escaped xs)
+
+one_dropped : (xs : List ℕ) (n y : ℕ) → n < length xs → get_or xs n 0 ≡ y → drop n xs ≡ y ∷ drop (suc n) xs
+one_dropped [] n y h e = absurd (omega arith)
+one_dropped (x ∷ xs) zero y h e = ap (λ z. z ∷ xs) e
+one_dropped (x ∷ xs) (suc n) y h e = one_dropped xs n y (omega arith) e
+
+-- a name in quotes and a colon stand after the first byte
+pub value_first : (d name : List ℕ) (first end : ℕ) → end ≡ length name + 2 → end + 2 ≤ length d → get_or d 0 0 ≡ first → get_or d 1 0 ≡ 34 → get_or d end 0 ≡ 34 → get_or d (end + 1) 0 ≡ 58 → slice_range d 2 end ≡ name → escape name ≡ name
+    → d ≡ first ∷ (quoted name ++ (58 ∷ drop (end + 2) d))
+value_first [] name first end size long one two mark colon same plain = absurd (omega arith)
+value_first (a ∷ []) name first end size long one two mark colon same plain = absurd (omega arith)
+value_first (a ∷ b ∷ xs) name first zero size long one two mark colon same plain = absurd (omega arith)
+value_first (a ∷ b ∷ xs) name first (suc zero) size long one two mark colon same plain = absurd (omega arith)
+value_first (a ∷ b ∷ xs) name first (suc (suc n)) size long one two mark colon same plain =
+    let before : n ≡ suc (suc n) - 2 = omega arith in
+    let next : suc (suc (suc n)) ≡ suc (suc n) + 1 = omega arith in
+    let after : suc (suc (suc (suc n))) ≡ suc (suc n) + 2 = omega arith in
+    let named : take n xs ≡ name = ap (λ k. take k xs) before ∙ same in
+    let colon_at : get_or xs (suc n) 0 ≡ 58 = ap (λ k. get_or (a ∷ b ∷ xs) k 0) next ∙ colon in
+    let rest : drop (suc n) xs ≡ 58 ∷ drop (suc (suc n)) xs = one_dropped xs (suc n) 58 (omega arith) colon_at in
+    ap (λ l. l ∷ b ∷ xs) one ∙ ap (λ l. first ∷ l ∷ xs) two
+    ∙ ap (λ l. first ∷ 34 ∷ l) (split_run xs n 34 (omega arith) mark ∙ ap₂ (λ k l. k ++ 34 ∷ l) (named ∙ sym plain) rest)
+    ∙ ap (λ l. first ∷ 34 ∷ l) (sym (append_assoc (escape name) (34 ∷ []) (58 ∷ drop (suc (suc n)) xs)))
+    ∙ ap (λ k. first ∷ (quoted name ++ (58 ∷ drop k (a ∷ b ∷ xs)))) after

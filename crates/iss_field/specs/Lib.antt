@@ -5,3 +5,5 @@ pub mod Plain
 pub mod PlainObjects
 pub mod Seen
 pub mod Values
+pub mod Texts
+pub mod Wholes

@@ -1,8 +1,9 @@
 -- Objects as most lines spell them: members of plain texts, whole numbers and flags, with nothing between them.
-use Rattle.std.specs.Prelude.{ℕ, ◌&&◌, ◌∷◌, ◌++◌, [], List, Bool, false, cond, nat_lt, ⊤}
+use Rattle.std.specs.Prelude.{ℕ, ◌&&◌, ◌∷◌, ◌++◌, [], List, Bool, true, false, cond, nat_lt, is_some, ◌≡◌, ⊤}
 use Rattle.json.specs.Json.{Json, null, boolean, number, string, array, object, Members, no_members, member}
 use Rattle.json.specs.Print.{IsNumber, quoted, token_text}
 use Rattle.json.specs.Token as token
+use Rattle.serde_json.specs.Read.{number_of}
 use Rattle.iss_field.specs.Plain.{is_plain_byte}
 
 -- the byte is of ASCII, and JSON doesn't escape it
@@ -44,3 +45,26 @@ opener first = cond first 123 44
 abbrev pub spelled : Bool → Members → List ℕ
 spelled first no_members = []
 spelled first (member name value ms) = opener first ∷ (quoted name ++ (58 ∷ (plain_text value ++ spelled false ms)))
+
+-- a member after the byte before it, and what follows it
+abbrev pub member_text : ℕ → List ℕ → Json → List ℕ → List ℕ
+member_text first name value rest = first ∷ (quoted name ++ (58 ∷ (plain_text value ++ rest)))
+
+-- these members, each after a comma, and the brace that closes their object
+abbrev pub ended : Members → List ℕ
+ended no_members = 125 ∷ []
+ended (member name value ms) = member_text 44 name value (ended ms)
+
+-- a text, a flag, or a number that data has
+abbrev pub IsReadable : Json → Type 0
+IsReadable null = ⊥
+IsReadable (boolean b) = ⊤
+IsReadable (number s) = IsNumber s × (is_some (number_of s) ≡ true)
+IsReadable (string s) = ⊤
+IsReadable (array js) = ⊥
+IsReadable (object ms) = ⊥
+
+-- each member's value is such a one
+abbrev pub AreReadable : Members → Type 0
+AreReadable no_members = ⊤
+AreReadable (member name value ms) = IsReadable value × AreReadable ms

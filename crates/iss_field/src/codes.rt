@@ -30,7 +30,7 @@ impl Form for MccForm {
 }
 
 #[tactic(auto, unfolding(crate::specs::Values::mcc_of_text))]
-fn mcc_of_text(text: &[u8]) -> Option<u16>
+pub(crate) fn mcc_of_text(text: &[u8]) -> Option<u16>
     ensures { result ≡ mcc_of_text text.now }
 {
     match text {

@@ -108,7 +108,13 @@ fn is_finite(negative: bool, numeral: &Numeral<'_>) -> bool
 pub(crate) fn whole_number(text: &str) -> Option<u64>
     ensures { result ≡ option_and_then as_u64 (number_of text.now) }
 {
-    let bytes = text.as_bytes();
+    whole_of(text.as_bytes())
+}
+
+/// The whole number that the bytes of a number spell, if it fits 64 bits.
+pub(crate) fn whole_of(bytes: &[u8]) -> Option<u64>
+    ensures { result ≡ option_and_then as_u64 (number_of bytes.now) }
+{
     if has_minus(bytes) {
         None
     } else {

@@ -40,7 +40,7 @@ fn last_named<'v, 'a>(members: &'v [(&'a str, Value<'a>)], name: &str) -> Option
 
 /// Whether a member is spelled as that name. A name is short, and known where it is looked up, so it costs least to compare
 /// its bytes one by one.
-fn is_named(spelled: &[u8], name: &[u8]) -> bool
+pub(crate) fn is_named(spelled: &[u8], name: &[u8]) -> bool
     ensures { result ≡ bytes_eq spelled.now name.now }
 {
     if spelled.len() != name.len() {

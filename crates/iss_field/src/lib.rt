@@ -11,11 +11,13 @@ mod codes;
 mod fields;
 mod fitting;
 mod found;
+mod members;
 mod name;
 mod numbers;
 mod object;
 mod offsets;
 mod plain;
+mod texts;
 mod words;
 
 pub use amounts::{AmountForm, LimitForm};
@@ -23,10 +25,12 @@ pub use codes::MccForm;
 pub use fields::{Form, FormIf};
 pub use found::text;
 pub use json::{Scratch, Value};
+pub use members::{Whole, flag_member, is_end, number_member, text_member};
 pub use name::Name;
 pub use numbers::{FlagForm, NumberForm, WholeForm};
 pub use object::Object;
 pub use offsets::OffsetForm;
+pub use texts::{amount_in, currency_in, mcc_in, token_in};
 pub use words::{
     CardStateForm, CurrencyForm, FundingForm, OutcomeForm, OutcomeWord, TokenForm, UserStateForm,
     WindowForm,

@@ -129,7 +129,7 @@ fn cut(rest: &str, end: usize) -> Option<&str>
 }
 
 /// The first byte from there on that isn't plain, or the length.
-fn plain_end(bytes: &[u8], from: usize) -> usize
+pub(crate) fn plain_end(bytes: &[u8], from: usize) -> usize
     requires { from ≤ length bytes.now }
     ensures run { result ≡ from + prefix_len is_plain_ascii (drop from bytes.now) }
     ensures bound { result ≤ length bytes.now }
@@ -150,7 +150,7 @@ fn is_plain(byte: u8) -> bool
 }
 
 /// The first byte from there on that isn't a digit, or the length.
-fn digits_end(bytes: &[u8], from: usize) -> usize
+pub(crate) fn digits_end(bytes: &[u8], from: usize) -> usize
     requires { from ≤ length bytes.now }
     ensures run { result ≡ from + prefix_len is_ascii_digit (drop from bytes.now) }
     ensures bound { result ≤ length bytes.now }
