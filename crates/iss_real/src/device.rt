@@ -1,7 +1,9 @@
 //! The file that a device is.
 
-ghost use Rattle.std.specs.Prelude.{◌≡◌, IsErr, None};
+ghost use Rattle.std.specs.Prelude.{◌≡◌, IsErr, None, length};
 
+use crate::ahead::{AHEAD, Window};
+use std::alloc::Global;
 use std::fs::{File, Files, OpenOptions, remove_file};
 use std::io;
 use std::io::ErrorKind;
@@ -13,6 +15,9 @@ use std::path::Path;
 pub struct Device {
     file: Option<File>,
     size: u64,
+    /// Where the last read ended, if nothing was written since.
+    read_to: Option<u64>,
+    ahead: Option<Window>,
 }
 
 impl Device {
@@ -24,6 +29,8 @@ impl Device {
         Device {
             file: None,
             size: 0,
+            read_to: None,
+            ahead: None,
         }
     }
 
@@ -70,6 +77,8 @@ impl Device {
         Ok(Device {
             file: Some(file),
             size,
+            read_to: None,
+            ahead: None,
         })
     }
 
@@ -80,17 +89,34 @@ impl Device {
         self.size
     }
 
-    /// Reads the bytes from this place on into `buf`.
-    pub fn read_at(&self, at: u64, buf: &mut [u8]) -> io::Result<()>
-        ensures absent { self.now.file ≡ None → IsErr result }
+    /// Reads the bytes from this place on into `buf`. Reads that follow one another with no write between are served from what is read
+    /// ahead.
+    pub fn read_at(&mut self, alloc: Global, at: u64, buf: &mut [u8]) -> io::Result<()>
+        ensures absent { self.old.file ≡ None → IsErr result }
+        ensures size { self.new.size ≡ self.old.size }
     {
-        self.file()?.read_exact_at(buf, at)
+        let file = self.file.as_ref().ok_or(ErrorKind::NotFound)?;
+        let goes_on = self.read_to == Some(at) && buf.len() <= AHEAD;
+        self.read_to = at.checked_add(buf.len() as u64);
+        if copied(&self.ahead, at, buf) {
+            return Ok(());
+        }
+        if goes_on {
+            self.ahead = Window::at(alloc, file, at, AHEAD).ok();
+            if copied(&self.ahead, at, buf) {
+                return Ok(());
+            }
+        }
+        file.read_exact_at(buf, at)
     }
 
     /// Writes the bytes from this place on.
-    pub fn write_at(&self, at: u64, bytes: &[u8]) -> io::Result<()>
-        ensures absent { self.now.file ≡ None → IsErr result }
+    pub fn write_at(&mut self, at: u64, bytes: &[u8]) -> io::Result<()>
+        ensures absent { self.old.file ≡ None → IsErr result }
+        ensures size { self.new.size ≡ self.old.size }
     {
+        self.read_to = None;
+        self.ahead = None;
         self.file()?.write_all_at(bytes, at)
     }
 
@@ -105,6 +131,16 @@ impl Device {
         ensures { self.now.file ≡ None → IsErr result }
     {
         Ok(self.file.as_ref().ok_or(ErrorKind::NotFound)?)
+    }
+}
+
+/// Copies the bytes from this place on into `buf` if all of them were read ahead.
+fn copied(ahead: &Option<Window>, at: u64, buf: &mut [u8]) -> bool
+    ensures { length buf.new ≡ length buf.old }
+{
+    match ahead {
+        Some(window) => window.copies(at, buf),
+        None => false,
     }
 }
 

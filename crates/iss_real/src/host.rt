@@ -32,6 +32,7 @@ struct Listener {
 #[derive(Drop)]
 pub struct Host<N> {
     pub net: N,
+    pub alloc: Global,
     listener: Option<Listener>,
     pub gateway: Option<u16>,
     /// Handles that are kept back for each side, so that the other can't take all that the system gives.
@@ -44,6 +45,7 @@ impl<N: Net> Host<N> {
     pub fn new(net: N, alloc: Global) -> Host<N> {
         Host {
             net,
+            alloc,
             listener: None,
             gateway: None,
             for_clients: Vec::new(alloc),

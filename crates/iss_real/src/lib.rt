@@ -4,6 +4,7 @@
 //! It must not cite what the bytes mean, nor which command a program's words are.
 #![tactic(auto)]
 
+mod ahead;
 mod clocks;
 mod device;
 mod host;

@@ -64,7 +64,12 @@ impl<R: Read + Drop, W: Write + Drop, N: Net<Stream = TcpStream> + Clock + Drop>
     }
 
     fn read_at(&mut self, at: u64, buf: &mut [u8]) -> Result<(), Failed> {
-        counted(self.device.read_at(at, buf), Fault::Disk, &mut self.faults)
+        let alloc = self.sockets.alloc();
+        counted(
+            self.device.read_at(alloc, at, buf),
+            Fault::Disk,
+            &mut self.faults,
+        )
     }
 
     fn write_at(&mut self, at: u64, bytes: &[u8]) -> Result<(), Failed> {

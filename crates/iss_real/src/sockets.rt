@@ -83,6 +83,11 @@ impl<N: Net<Stream = TcpStream> + Clock + Drop> Sockets<N> {
         }
     }
 
+    /// Where this takes its memory.
+    pub(crate) fn alloc(&self) -> Global {
+        self.host.alloc
+    }
+
     /// Listens for clients on a port of this machine, 0 for any that is free.
     pub fn listen(&mut self, alloc: Global, port: u16) -> io::Result<()>
         ensures { self.new ≡ self.old }

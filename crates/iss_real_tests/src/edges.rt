@@ -82,6 +82,24 @@ fn keeps_what_is_written<E: Edge>(edge: &mut E) -> bool {
     edge.read_at(0, &mut buf).is_ok() && buf == *b"\0\0abc\0\0\0"
 }
 
+/// Whether reads that follow one another see what was written over bytes that may have been read ahead.
+fn sees_what_is_written_over<E: Edge>(edge: &mut E) -> bool {
+    let mut buf = [1; 2];
+    if edge.size() != 8
+        || edge.read_at(0, &mut buf).is_err()
+        || edge.read_at(2, &mut buf).is_err()
+    {
+        return false;
+    }
+    let goes_on = edge.read_at(4, &mut buf).is_ok() && buf == *b"c\0";
+    goes_on
+        && edge.write_at(3, b"xyz").is_ok()
+        && edge.read_at(6, &mut buf).is_ok()
+        && buf == *b"\0\0"
+        && edge.read_at(4, &mut buf).is_ok()
+        && buf == *b"yz"
+}
+
 /// Whether a connection that the edge dials to itself brings what is sent, both ways, and then its end, once.
 fn connects<E: Edge>(edge: &mut E) -> bool {
     let mut buf = [0; 8];
@@ -107,6 +125,7 @@ fn a_file_and_a_connection(rt: HostRuntime) -> Result<(), Fail> {
     let mut edge = edge_on(rt, PORTS[0], device)?;
 
     assert!(rt; keeps_what_is_written(&mut edge));
+    assert!(rt; sees_what_is_written_over(&mut edge));
     assert!(rt; connects(&mut edge));
     Ok(())
 }
