@@ -6,3 +6,4 @@ pub mod LinesInForm
 pub mod ClientLines
 pub mod ReportTexts
 mod OpenedLines
+pub mod PlainLines

@@ -4,3 +4,4 @@ pub mod Kinds
 pub mod Readings
 pub mod Replies
 pub mod ReportLines
+pub mod PlainLines

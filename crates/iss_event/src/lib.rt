@@ -11,6 +11,7 @@ mod inputs;
 mod kind;
 mod line;
 mod payments;
+mod plain;
 mod reading;
 mod reason;
 mod report;

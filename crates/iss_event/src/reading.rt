@@ -8,6 +8,7 @@ ghost use Rattle.iss_event.specs.Readings.{IsReadAsLine, Opens, opened_as, as_fa
 use crate::inputs::input_of_kind;
 use crate::kind::{Kind, KindForm};
 use crate::line::OpenLine;
+use crate::plain::plain_line;
 use crate::{FormFault, Line, LineFault, Mode};
 use iss_field::{Name, Object, Scratch, WholeForm};
 use iss_model::limits::{LAST_STAMP, LONGEST_LINE};
@@ -37,9 +38,21 @@ pub fn read_line_in(
     ensures stamp_form { IfOk result (λ said. IsTrue (is_stamp_or_none said.at)) }
     ensures least { IfOk result (λ said. 4 ≤ length line.now) }
 {
+    if let Some(said) = plain_line(mode, line) {
+        return line_or_fault(said);
+    }
     match open_line(scratch, alloc, line, mode) {
         Ok(open) => open.read(alloc),
         Err(fault) => Err(fault),
+    }
+}
+
+fn line_or_fault(said: Result<Line, Name>) -> Result<Line, LineFault>
+    ensures { IsReadAsLine (as_fault said) result }
+{
+    match said {
+        Ok(line) => Ok(line),
+        Err(name) => Err(LineFault::Form(FormFault::Field(name))),
     }
 }
 
