@@ -155,3 +155,23 @@ long_names() {
         }
     }'
 }
+
+# kept NAME COUNT: so many lines of an input of 20,000 that is kept here.
+kept() {
+    gzip -dc "bench/$1.jsonl.gz" | sed -n "1,$2p"
+}
+
+# mix COUNT: lines of all kinds by two hundred users, a part of them bad.
+mix() {
+    kept mix "$1"
+}
+
+# simple COUNT: purchases of two hundred users, under one control, with their clearings.
+simple() {
+    kept simple "$1"
+}
+
+# drill COUNT: the lines that a drill makes, with the answers of its gateway.
+drill() {
+    kept drill "$1"
+}
