@@ -1,4 +1,4 @@
--- What is done on the first bytes of a device is done on the whole device, with zeros behind them.
+-- What is done on the first bytes of a device is done on the whole device, with zeros after them.
 use Rattle.std.proofs.Common.{◌≡◌, ℕ, ◌+◌, ◌-◌, ◌≤◌, inl, inr, List, ◌++◌, length, take, drop, refl, sym, ap, ◌∙◌, append_assoc, arith}
 use Rattle.std.specs.Prelude.{replicate, Result, Ok, Err, OnOk, OnErr}
 use Rattle.std.proofs.lemmas.List.{length-take-le, take-take, take-append-le, take_at, drop_at, drop-append-le, drop-take}
@@ -21,7 +21,7 @@ read_of size at count xs below kept =
     ∙ ap (λ (l : List ℕ). drop at l) (first_of size (at + count) xs below kept)
     ∙ drop-take at count xs
 
--- what stands behind bytes that are kept
+-- what stands after bytes that are kept
 rest_of : (size k : ℕ) (xs : List ℕ) → k ≤ size → k ≤ length xs → drop k (with_zeros size xs) ≡ take (size - k) (drop k xs ++ replicate size 0)
 rest_of size k xs below kept =
     let whole : size ≡ k + (size - k) = omega arith in

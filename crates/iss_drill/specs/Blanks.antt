@@ -1,10 +1,10 @@
--- A device of which the first bytes are kept, with zeros behind them.
+-- A device of which the first bytes are kept, with zeros after them.
 use Rattle.std.specs.Prelude.{◌≡◌, ℕ, ◌^◌, ◌-◌, List, ◌++◌, length, take, replicate, Option, Some, None, IfSome}
 use Rattle.std.proofs.Common.{arith, length-append}
 use Rattle.std.proofs.lemmas.List.{length-replicate, length-take-le}
 use Rattle.iss_edge.specs.World.{World, Faults}
 
--- the first bytes of a device, and zeros behind them up to its size
+-- the first bytes of a device, and zeros after them up to its size
 abbrev pub with_zeros : ℕ → List ℕ → List ℕ
 with_zeros size first = take size (first ++ replicate size 0)
 

@@ -5,11 +5,11 @@ ghost use Rattle.iss_drill.specs.Blanks.{with_zeros};
 use iss_edge::{Arrival, Channel, Edge, Failed, MemoryEdge};
 use std::alloc::{AllocError, Global};
 
-/// How many bytes are kept: formatting and opening touch no byte behind them while no record stands.
+/// How many bytes are kept: formatting and opening touch no byte after them while no record stands.
 const KEPT: usize = 64;
 
 /// A device of a size, of which the first bytes alone are kept and can be read and written. It tells what is done on it, and that all bytes
-/// behind those are zeros. What is no work on the device fails.
+/// after those are zeros. What is no work on the device fails.
 #[derive(Drop)]
 pub(crate) struct Blank {
     size: u64,

@@ -18,7 +18,7 @@ pub struct Window {
 }
 
 impl Window {
-    /// The file's bytes from this place on, at most so many, and fewer at its end.
+    /// The file's bytes from this place on, at most `most` of them, and fewer at its end.
     pub fn at(alloc: Global, file: &File, start: u64, most: usize) -> io::Result<Window> {
         let mut bytes = vec![in alloc; 0; most]?;
         let count = file.read_at(bytes.as_mut_slice(), start)?;
