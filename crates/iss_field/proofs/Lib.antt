@@ -8,3 +8,4 @@ pub mod Views
 pub mod PlainTexts
 pub mod PlainRead
 pub mod MembersRead
+pub mod NoMember

@@ -3,6 +3,7 @@ pub mod Names
 pub mod Objects
 pub mod Plain
 pub mod PlainObjects
+pub mod NoMember
 pub mod Seen
 pub mod Values
 pub mod Texts

@@ -41,14 +41,14 @@ ArePlain (member name value ms) = IsPlainValue value × ArePlain ms
 abbrev pub opener : Bool → ℕ
 opener first = cond first 123 44
 
--- these members, each after the byte before it
-abbrev pub spelled : Bool → Members → List ℕ
-spelled first no_members = []
-spelled first (member name value ms) = opener first ∷ (quoted name ++ (58 ∷ (plain_text value ++ spelled false ms)))
-
 -- a member after the byte before it, and what follows it
 abbrev pub member_text : ℕ → List ℕ → Json → List ℕ → List ℕ
 member_text first name value rest = first ∷ (quoted name ++ (58 ∷ (plain_text value ++ rest)))
+
+-- these members, each after the byte before it
+abbrev pub spelled : Bool → Members → List ℕ
+spelled first no_members = []
+spelled first (member name value ms) = member_text (opener first) name value (spelled false ms)
 
 -- these members, each after a comma, and the brace that closes their object
 abbrev pub ended : Members → List ℕ

@@ -1,6 +1,6 @@
 //! Objects of plain members, as most lines are: each name and text is ASCII of which JSON escapes nothing, each number whole, and nothing
 //! stands between them. They are read in one pass over the bytes.
-ghost use Rattle.std.specs.Prelude.{◌≡◌, ◌+◌, ◌<◌, ◌≤◌, [], ◌∷◌, ◌++◌, length, drop, IfOk, IfSome, Some, true};
+ghost use Rattle.std.specs.Prelude.{◌≡◌, ◌+◌, ◌<◌, ◌≤◌, [], ◌∷◌, ◌++◌, length, drop, IfOk, IfSome, Some};
 ghost use Rattle.std.specs.Char.{is_ascii_digit};
 ghost use Rattle.std.specs.List.{prefix_len};
 ghost use Rattle.std.specs.Str.{IsCharBoundary, IsUtf8};
@@ -10,6 +10,7 @@ ghost use Rattle.json.specs.Value.{value_view, members_view};
 ghost use Rattle.iss_field.specs.PlainObjects.{is_plain_ascii, IsPlainValue, plain_text, flag_text};
 ghost use Rattle.iss_field.specs.Seen.{json_text};
 
+use crate::members::is_end;
 use json::Value;
 use std::alloc::{AllocError, Global};
 
@@ -34,21 +35,13 @@ pub(crate) fn plain_members<'a>(
             return Ok(None);
         };
         members.push((name, value))?;
-        if is_end(after) {
+        if is_end(after.as_bytes()) {
             return Ok(Some(members));
         }
         opener = b',';
         rest = after;
     }
     Ok(None)
-}
-
-/// Whether this is the brace that closes an object, and nothing after it.
-fn is_end(rest: &str) -> bool
-    ensures { result ≡ true → rest.now ≡ 125 ∷ [] }
-{
-    let bytes = rest.as_bytes();
-    bytes.len() == 1 && bytes[0] == b'}'
 }
 
 /// The plain value after a colon, and what follows it.

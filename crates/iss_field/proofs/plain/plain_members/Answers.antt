@@ -17,7 +17,7 @@ returns-then-is_end c =
     let plain = plain_followed ms k j so_far.2 c.in-Some-value_after.ensures.plain in
     let end = c.if-is_end.ensures in
     let pushed : members_view c.push.new.self.items ≡ followed ms k j = ap members_view c.in_ok-push.ensures.items ∙ view_push c.loop.members.items (c.in-Some.name, c.in-Some-value_after.value) in
-    spelled_text ms k j c.args.text.now plain (more ∙ ap (λ l. spelled true (followed ms k j) ++ l) (end refl)) ∙ ap (λ m. Some (object m)) (sym pushed)
+    spelled_text ms k j c.args.text.now plain (more ∙ ap (λ l. spelled true (followed ms k j) ++ l) (sym c.as_bytes.ensures.value ∙ end.0 refl)) ∙ ap (λ m. Some (object m)) (sym pushed)
 
 pub loop-preserved : goal.loop-preserved
 loop-preserved c =
