@@ -13,7 +13,7 @@ use Rattle.std.proofs.lemmas.Bool.{cases_eq, false≢true}
 use Rattle.iss_index.specs.declared.groups.Group.{Group}
 use Rattle.iss_index.specs.declared.groups.Slot.{Slot}
 use Rattle.iss_index.specs.Places.{place_of}
-use Rattle.iss_index.specs.Hashing.{hash_of, tag_of, group_of, is_name, is_at, is_zero, slot_has, slots_of, has_room, in_slots, slots_at, found_in, AreWithin, AreFound, AreNamesKept, PutsName, FillsSlot, FillsGroup, free_group}
+use Rattle.iss_index.specs.Hashing.{hash_of, tag_of, rank_of, group_of, is_name, is_at, is_zero, slot_has, slots_of, has_room, in_slots, slots_at, found_in, AreWithin, AreFound, AreNamesKept, PutsName, FillsSlot, FillsGroup, free_group}
 use Rattle.iss_model.proofs.Names.{one_name, name-sym}
 use Rattle.iss_index.proofs.Placed.{later, place-last, apart-last, place_here, first_lacks, rest_apart}
 
@@ -97,18 +97,18 @@ at_last : (names : List (List ℕ)) (k q : List ℕ) → is_at (names ++ k ∷ [
 at_last names k q = ap (is_name q) (get_last names k)
 
 -- a slot with a place that stood
-slot_more : (tag : ℕ) (names : List (List ℕ)) (k q : List ℕ) (s : Slot) → s.rank ≤ length names → slot_has tag (names ++ k ∷ []) q s ≡ slot_has tag names q s
-slot_more tag names k q s within = by s.rank refl
+slot_more : (tag : ℕ) (names : List (List ℕ)) (k q : List ℕ) (s : Slot) → rank_of s ≤ length names → slot_has tag (names ++ k ∷ []) q s ≡ slot_has tag names q s
+slot_more tag names k q s within = by (rank_of s) refl
   where
-    by : (r : ℕ) → s.rank ≡ r → slot_has tag (names ++ k ∷ []) q s ≡ slot_has tag names q s
+    by : (r : ℕ) → rank_of s ≡ r → slot_has tag (names ++ k ∷ []) q s ≡ slot_has tag names q s
     by zero e =
-        let free : (s.rank == 0) ≡ true = ap (λ (n : ℕ). n == 0) e ∙ same_number 0 in
-        rw free (both_false (s.tag == tag) (is_at (names ++ k ∷ []) (s.rank - 1) q) (is_at names (s.rank - 1) q))
+        let free : (rank_of s == 0) ≡ true = ap (λ (n : ℕ). n == 0) e ∙ same_number 0 in
+        rw free (both_false (s.tag == tag) (is_at (names ++ k ∷ []) (rank_of s - 1) q) (is_at names (rank_of s - 1) q))
       where
         both_false : (t a b : Bool) → (t && not true && a) ≡ (t && not true && b)
         both_false true a b = refl
         both_false false a b = refl
-    by (suc r) e = ap (λ (b : Bool). s.tag == tag && not (s.rank == 0) && b) (at_more names k q (s.rank - 1) (omega (arith, e, within)))
+    by (suc r) e = ap (λ (b : Bool). s.tag == tag && not (rank_of s == 0) && b) (at_more names k q (rank_of s - 1) (omega (arith, e, within)))
 
 slots_more : (tag : ℕ) (names : List (List ℕ)) (k q : List ℕ) (slots : List Slot) → AreWithin (length names) slots
     → find (slot_has tag (names ++ k ∷ []) q) slots ≡ find (slot_has tag names q) slots
@@ -117,22 +117,30 @@ slots_more tag names k q (s ∷ slots) within =
     ap₂ (λ (b : Bool) (o : Option Slot). cond b (Some s) o) (slot_more tag names k q s within.0) (slots_more tag names k q slots within.1)
 
 -- a free slot has no name's place
-free_has : (tag : ℕ) (names : List (List ℕ)) (q : List ℕ) (s : Slot) → s.rank ≡ 0 → slot_has tag names q s ≡ false
+free_has : (tag : ℕ) (names : List (List ℕ)) (q : List ℕ) (s : Slot) → rank_of s ≡ 0 → slot_has tag names q s ≡ false
 free_has tag names q s free =
-    let is : (s.rank == 0) ≡ true = ap (λ (n : ℕ). n == 0) free ∙ same_number 0 in
-    rw is (never (s.tag == tag) (is_at names (s.rank - 1) q))
+    let is : (rank_of s == 0) ≡ true = ap (λ (n : ℕ). n == 0) free ∙ same_number 0 in
+    rw is (never (s.tag == tag) (is_at names (rank_of s - 1) q))
   where
     never : (t a : Bool) → (t && not true && a) ≡ false
     never true a = refl
     never false a = refl
 
+-- a slot with a name's place isn't free
+not_free : (place : ℕ) (s : Slot) → rank_of s ≡ place + 1 → (rank_of s == 0) ≡ false
+not_free place s ranked = ap (λ (n : ℕ). n == 0) ranked ∙ above place
+  where
+    above : (n : ℕ) → (n + 1 == 0) ≡ false
+    above n = grind (arith)
+
 -- the slot of the last name, which has it if the tag is its own
-last_has : (tag : ℕ) (names : List (List ℕ)) (k q : List ℕ) (own place : ℕ) → place ≡ length names
-    → slot_has tag (names ++ k ∷ []) q (record { tag = own; rank = place + 1 }) ≡ ((own == tag) && bytes_eq k q)
-last_has tag names k q own place is =
-    let there : is_at (names ++ k ∷ []) (place + 1 - 1) q ≡ bytes_eq k q = ap (λ (i : ℕ). is_at (names ++ k ∷ []) i q) (omega (arith, is)) ∙ at_last names k q in
-    let taken : (place + 1 == 0) ≡ false = grind (arith) in
-    rw (there, taken) (known (own == tag) (bytes_eq k q))
+last_has : (tag : ℕ) (names : List (List ℕ)) (k q : List ℕ) (own place : ℕ) (s : Slot) → s.tag ≡ own → rank_of s ≡ place + 1 → place ≡ length names
+    → slot_has tag (names ++ k ∷ []) q s ≡ ((own == tag) && bytes_eq k q)
+last_has tag names k q own place s tagged ranked is =
+    let there : is_at (names ++ k ∷ []) (rank_of s - 1) q ≡ bytes_eq k q = ap (λ (i : ℕ). is_at (names ++ k ∷ []) i q) (omega (arith, ranked, is)) ∙ at_last names k q in
+    let taken : (rank_of s == 0) ≡ false = not_free place s ranked in
+    ap (λ (t : ℕ). (t == tag) && not (rank_of s == 0) && is_at (names ++ k ∷ []) (rank_of s - 1) q) tagged
+    ∙ rw (there, taken) (known (own == tag) (bytes_eq k q))
   where
     known : (t a : Bool) → (t && not false && a) ≡ (t && a)
     known true a = refl
@@ -140,31 +148,28 @@ last_has tag names k q own place is =
 
 -- ---- slots of a group
 
-free_slot_is : (slots : List Slot) (at : ℕ) → option_map (λ (s : Slot). s.rank) (slice_get slots at) ≡ Some 0 → (x : Slot) → slice_get slots at ≡ Some x → x.rank ≡ 0
-free_slot_is slots at free x is = same_Some x.rank 0 (sym (ap (option_map (λ (s : Slot). s.rank)) is) ∙ free)
+free_slot_is : (slots : List Slot) (at : ℕ) → option_map (λ (s : Slot). rank_of s) (slice_get slots at) ≡ Some 0 → (x : Slot) → slice_get slots at ≡ Some x → rank_of x ≡ 0
+free_slot_is slots at free x is = same_Some (rank_of x) 0 (sym (ap (option_map (λ (s : Slot). rank_of s)) is) ∙ free)
 
-free_within : (slots : List Slot) (at : ℕ) → option_map (λ (s : Slot). s.rank) (slice_get slots at) ≡ Some 0 → at < length slots
+free_within : (slots : List Slot) (at : ℕ) → option_map (λ (s : Slot). rank_of s) (slice_get slots at) ≡ Some 0 → at < length slots
 free_within slots at free = by (slice_get slots at) refl
   where
     by : (o : Option Slot) → slice_get slots at ≡ o → at < length slots
     by None e =
-        let none : None ≡ Some 0 = sym (ap (option_map (λ (s : Slot). s.rank)) e) ∙ free in
+        let none : None ≡ Some 0 = sym (ap (option_map (λ (s : Slot). rank_of s)) e) ∙ free in
         absurd (none-some 0 none)
     by (Some x) e = found_within slots at x e
 
 module _ (names : List (List ℕ)) (k : List ℕ) (place own : ℕ) (before after : List Slot) (within : AreWithin (length names) before)
     (is : place ≡ length names) (fills : FillsSlot before after own place) where
-  made : Slot
-  made = record { tag = own; rank = place + 1 }
-
   -- another name is found at the same place
   filled_other : (tag : ℕ) (q : List ℕ) → bytes_eq k q ≡ false → in_slots tag (names ++ k ∷ []) q after ≡ in_slots tag names q before
   filled_other tag q apart =
       ap (λ (slots : List Slot). in_slots tag (names ++ k ∷ []) q slots) fills.now
-      ∙ ap (option_map (λ (s : Slot). s.rank - 1))
-      (find_set_other (slot_has tag (names ++ k ∷ []) q) before fills.at (record { tag = own; rank = place + 1 })
+      ∙ ap (option_map (λ (s : Slot). rank_of s - 1))
+      (find_set_other (slot_has tag (names ++ k ∷ []) q) before fills.at fills.slot
       (λ x there. free_has tag (names ++ k ∷ []) q x (free_slot_is before fills.at fills.free x there))
-      (last_has tag names k q own place is ∙ ap (λ (b : Bool). (own == tag) && b) apart ∙ never (own == tag))
+      (last_has tag names k q own place fills.slot fills.tagged fills.ranked is ∙ ap (λ (b : Bool). (own == tag) && b) apart ∙ never (own == tag))
       ∙ slots_more tag names k q before within)
     where
       never : (t : Bool) → (t && false) ≡ false
@@ -175,24 +180,24 @@ module _ (names : List (List ℕ)) (k : List ℕ) (place own : ℕ) (before afte
   filled_here : (q : List ℕ) → bytes_eq k q ≡ true → in_slots own names q before ≡ None → in_slots own (names ++ k ∷ []) q after ≡ Some place
   filled_here q same none =
       ap (λ (slots : List Slot). in_slots own (names ++ k ∷ []) q slots) fills.now
-      ∙ ap (option_map (λ (s : Slot). s.rank - 1))
-      (find_set_here (slot_has own (names ++ k ∷ []) q) before fills.at (record { tag = own; rank = place + 1 })
+      ∙ ap (option_map (λ (s : Slot). rank_of s - 1))
+      (find_set_here (slot_has own (names ++ k ∷ []) q) before fills.at fills.slot
       (slots_more own names k q before within ∙ nothing (find (slot_has own names q) before) none)
       (free_within before fills.at fills.free)
-      (last_has own names k q own place is ∙ ap₂ (λ (a b : Bool). a && b) (same_number own) same))
-      ∙ ap (λ (n : ℕ). Some n) (omega arith)
+      (last_has own names k q own place fills.slot fills.tagged fills.ranked is ∙ ap₂ (λ (a b : Bool). a && b) (same_number own) same))
+      ∙ ap (λ (n : ℕ). Some n) (omega (arith, fills.ranked))
     where
-      nothing : (o : Option Slot) → option_map (λ (s : Slot). s.rank - 1) o ≡ None → o ≡ None
+      nothing : (o : Option Slot) → option_map (λ (s : Slot). rank_of s - 1) o ≡ None → o ≡ None
       nothing None e = refl
-      nothing (Some s) e = absurd (none-some (s.rank - 1) (sym e))
+      nothing (Some s) e = absurd (none-some (rank_of s - 1) (sym e))
 
   -- each place is one of the names that stand then
   filled_within : AreWithin (length names + 1) after
   filled_within =
       subst (AreWithin (length names + 1)) (sym fills.now)
-      (all_set (λ (s : Slot). s.rank ≤ length names + 1) before fills.at (record { tag = own; rank = place + 1 })
-      (all_weaker (λ (s : Slot). s.rank ≤ length names) (λ (s : Slot). s.rank ≤ length names + 1) (λ s h. omega (arith, h)) before within)
-      (omega (arith, is)))
+      (all_set (λ (s : Slot). rank_of s ≤ length names + 1) before fills.at fills.slot
+      (all_weaker (λ (s : Slot). rank_of s ≤ length names) (λ (s : Slot). rank_of s ≤ length names + 1) (λ s h. omega (arith, h)) before within)
+      (omega (arith, fills.ranked, is)))
 
 -- ---- groups
 
@@ -210,7 +215,7 @@ longer (n ∷ names) k =
 within_more : (n m : ℕ) (groups : List Group) → n ≤ m → AllByRecursion (λ (g : Group). AreWithin n g.slots) groups → AllByRecursion (λ (g : Group). AreWithin m g.slots) groups
 within_more n m groups le =
     all_weaker (λ (g : Group). AreWithin n g.slots) (λ (g : Group). AreWithin m g.slots)
-    (λ g. all_weaker (λ (s : Slot). s.rank ≤ n) (λ (s : Slot). s.rank ≤ m) (λ s h. omega (arith, h, le)) g.slots) groups
+    (λ g. all_weaker (λ (s : Slot). rank_of s ≤ n) (λ (s : Slot). rank_of s ≤ m) (λ s h. omega (arith, h, le)) g.slots) groups
 
 unfound : (o r : Option ℕ) → option_or o r ≡ None → o ≡ None
 unfound None r e = refl
@@ -280,7 +285,7 @@ module _ (before after : List Group) (others : BTreeMap (List ℕ) ℕ) (k : Lis
           ≡ in_slots (tag_of (hash_of q)) names q (slots_at before (group_of (length before) (hash_of q)))
       other_group e =
           ap (in_slots (tag_of (hash_of q)) (names ++ k ∷ []) q) (other_slots (group_of (length before) (hash_of q)) e)
-          ∙ ap (option_map (λ (s : Slot). s.rank - 1)) (slots_more (tag_of (hash_of q)) names k q (slots_at before (group_of (length before) (hash_of q)))
+          ∙ ap (option_map (λ (s : Slot). rank_of s - 1)) (slots_more (tag_of (hash_of q)) names k q (slots_at before (group_of (length before) (hash_of q)))
           (within_at (length names) before (group_of (length before) (hash_of q)) found.within))
 
   found_own : found_in after others (names ++ k ∷ []) k ≡ Some place
@@ -295,16 +300,18 @@ module _ (before after : List Group) (others : BTreeMap (List ℕ) ℕ) (k : Lis
       ∙ filled_here names k place (tag_of (hash_of k)) (slots_at before (group_of (length before) (hash_of k))) fills.slots own_within is fills.fills k same clear)
 
   -- a group that has room had it
-  room_stays : (slots : List Slot) (at place tag : ℕ) → has_room (set slots at (record { tag = tag; rank = place + 1 })) ≡ true
-      → option_map (λ (s : Slot). s.rank) (slice_get slots at) ≡ Some 0 → has_room slots ≡ true
-  room_stays slots at place tag room free = ⊎_elim (λ e. taken e) (λ e. ap is_zero (sym (get_set_other slots at 7 (record { tag = tag; rank = place + 1 }) e)) ∙ room) (cases_eq 7 at)
+  room_stays : (before after : List Slot) (place tag : ℕ) → FillsSlot before after tag place → has_room after ≡ true → has_room before ≡ true
+  room_stays before after place tag fills room =
+      ⊎_elim (λ e. taken e) (λ e. ap is_zero (sym (get_set_other before fills.at 11 fills.slot e)) ∙ now) (cases_eq 11 fills.at)
     where
-      taken : 7 ≡ at → has_room slots ≡ true
+      now : has_room (set before fills.at fills.slot) ≡ true
+      now = sym (ap has_room fills.now) ∙ room
+
+      taken : 11 ≡ fills.at → has_room before ≡ true
       taken e =
-          let here : is_zero (Some (record { tag = tag; rank = place + 1 })) ≡ true =
-          sym (ap is_zero (ap (slice_get (set slots at (record { tag = tag; rank = place + 1 }))) e ∙ get_set slots at (record { tag = tag; rank = place + 1 }) (free_within slots at free))) ∙ room in
-          let never : (place + 1 == 0) ≡ false = grind (arith) in
-          absurd (false≢true (sym never ∙ here))
+          let here : is_zero (Some fills.slot) ≡ true =
+          sym (ap is_zero (ap (slice_get (set before fills.at fills.slot)) e ∙ get_set before fills.at fills.slot (free_within before fills.at fills.free))) ∙ now
+          in absurd (false≢true (sym (not_free place fills.slot fills.ranked) ∙ here))
 
   stays_clear : (q : List ℕ) → has_room (slots_at after (group_of (length after) (hash_of q))) ≡ true → get (slice_cmp nat_cmp) others q ≡ None
   stays_clear q room =
@@ -317,7 +324,7 @@ module _ (before after : List Group) (others : BTreeMap (List ℕ) ℕ) (k : Lis
       own_room e there =
           let filled : has_room fills.slots ≡ true = sym (ap (λ (i : ℕ). has_room (slots_at after i)) e ∙ ap has_room own_slots) ∙ there in
           let had : has_room (slots_at before (group_of (length before) (hash_of k))) ≡ true =
-          room_stays (slots_at before (group_of (length before) (hash_of k))) fills.fills.at place (tag_of (hash_of k)) (sym (ap has_room fills.fills.now) ∙ filled) fills.fills.free in
+          room_stays (slots_at before (group_of (length before) (hash_of k))) fills.slots place (tag_of (hash_of k)) fills.fills filled in
           ap (λ (i : ℕ). has_room (slots_at before i)) e ∙ had
 
   pub put_filled : AreFound after others (names ++ k ∷ [])
@@ -372,7 +379,7 @@ put_other groups others after k place noted full names found is none =
     stays : (q : List ℕ) → in_slots (tag_of (hash_of q)) (names ++ k ∷ []) q (slots_at groups (group_of (length groups) (hash_of q)))
         ≡ in_slots (tag_of (hash_of q)) names q (slots_at groups (group_of (length groups) (hash_of q)))
     stays q =
-        ap (option_map (λ (s : Slot). s.rank - 1)) (slots_more (tag_of (hash_of q)) names k q (slots_at groups (group_of (length groups) (hash_of q)))
+        ap (option_map (λ (s : Slot). rank_of s - 1)) (slots_more (tag_of (hash_of q)) names k q (slots_at groups (group_of (length groups) (hash_of q)))
         (within_at (length names) groups (group_of (length groups) (hash_of q)) found.within))
 
     at : (q : List ℕ) (b : Bool) → bytes_eq k q ≡ b
@@ -391,25 +398,33 @@ put_other groups others after k place noted full names found is none =
 
 -- ---- at the start, and name by name
 
-no_slot : (tag : ℕ) (names : List (List ℕ)) (q : List ℕ) (slots : List Slot) → AllByRecursion (λ (s : Slot). s.rank ≡ 0) slots → find (slot_has tag names q) slots ≡ None
+no_slot : (tag : ℕ) (names : List (List ℕ)) (q : List ℕ) (slots : List Slot) → AllByRecursion (λ (s : Slot). rank_of s ≡ 0) slots → find (slot_has tag names q) slots ≡ None
 no_slot tag names q [] free = refl
 no_slot tag names q (s ∷ slots) free =
     ap₂ (λ (b : Bool) (o : Option Slot). cond b (Some s) o) (free_has tag names q s free.0) (no_slot tag names q slots free.1)
 
-free_at : (count i : ℕ) → AllByRecursion (λ (s : Slot). s.rank ≡ 0) (slots_at (replicate count free_group) i)
+free_is : rank_of (record { tag = 0; rank = replicate 4 0 }) ≡ 0
+unfolding rank_of
+free_is = refl
+
+-- what holds of a free slot, in a row of them
+all_free : (P : Slot → Type 0) (count : ℕ) → P (record { tag = 0; rank = replicate 4 0 }) → AllByRecursion P (replicate count (record { tag = 0; rank = replicate 4 0 }))
+all_free P zero own = tt
+all_free P (suc count) own = (own, all_free P count own)
+
+free_at : (count i : ℕ) → AllByRecursion (λ (s : Slot). rank_of s ≡ 0) (slots_at (replicate count free_group) i)
+unfolding free_group
 free_at zero i = tt
-free_at (suc count) zero = (refl, (refl, (refl, (refl, (refl, (refl, (refl, (refl, tt))))))))
+free_at (suc count) zero = all_free (λ (s : Slot). rank_of s ≡ 0) 12 free_is
 free_at (suc count) (suc i) = free_at count i
 
 free_places : (count : ℕ) → AllByRecursion (λ (g : Group). AreWithin 0 g.slots) (replicate count free_group)
+unfolding free_group
 free_places zero = tt
 free_places (suc count) = (none_within, free_places count)
   where
-    least : 0 ≤ 0
-    least = omega arith
-
     none_within : AreWithin 0 free_group.slots
-    none_within = (least, (least, (least, (least, (least, (least, (least, (least, tt))))))))
+    none_within = all_free (λ (s : Slot). rank_of s ≤ 0) 12 (omega (arith, free_is))
 
 -- free groups and a tree without entries find no name
 pub found_none : (count : ℕ) (groups : List Group) (others : BTreeMap (List ℕ) ℕ) → groups ≡ replicate count free_group → others.entries ≡ [] → AreFound groups others []
@@ -417,7 +432,7 @@ found_none count groups others free empty =
     subst (λ (gs : List Group). AreFound gs others []) (sym free)
     (record {
       found = λ q.
-          ap₂ option_or (ap (option_map (λ (s : Slot). s.rank - 1))
+          ap₂ option_or (ap (option_map (λ (s : Slot). rank_of s - 1))
           (no_slot (tag_of (hash_of q)) [] q (slots_at (replicate count free_group) (group_of (length (replicate count free_group)) (hash_of q)))
           (free_at count (group_of (length (replicate count free_group)) (hash_of q)))))
           (nothing q);

@@ -3,6 +3,7 @@ use Rattle.std.specs.Prelude.{◌≡◌, ℕ, ◌+◌, ◌-◌, ◌/◌, ◌%◌
 use Rattle.std.specs.BTreeMap.{BTreeMap, get}
 use Rattle.std.specs.Cmp.Lexicographic.{slice_cmp}
 use Rattle.std.specs.Hash.FoldHasher.{initial, write, finish}
+use Rattle.std.specs.Int.{w32, from_le_bytes}
 use Rattle.std.specs.List.{AllByRecursion, IsDistinct}
 use Rattle.std.specs.Option.{option_or}
 use Rattle.std.specs.Ordering.{nat_cmp}
@@ -16,14 +17,18 @@ use Rattle.iss_index.specs.Places.{place_of}
 unfoldable pub hash_of : List ℕ → ℕ
 hash_of name = finish (write initial name)
 
+-- the place that a slot has, counted from 1, or 0 if it is free
+unfoldable pub rank_of : Slot → ℕ
+rank_of s = from_le_bytes w32 s.rank
+
 -- there is a slot, and it is free
 abbrev pub is_zero : Option Slot → Bool
 is_zero None = false
-is_zero (Some s) = s.rank == 0
+is_zero (Some s) = rank_of s == 0
 
 -- the part of a hash that a slot keeps
 abbrev pub tag_of : ℕ → ℕ
-tag_of hash = hash % 2 ^ 32
+tag_of hash = hash % 2 ^ 8
 
 -- the group, of this number of groups, that a hash points to
 abbrev pub group_of : ℕ → ℕ → ℕ
@@ -40,11 +45,11 @@ is_at names place name = is_name name (slice_get names place)
 
 -- a slot has the place of this name
 abbrev pub slot_has : ℕ → List (List ℕ) → List ℕ → Slot → Bool
-slot_has tag names name s = s.tag == tag && not (s.rank == 0) && is_at names (s.rank - 1) name
+slot_has tag names name s = s.tag == tag && not (rank_of s == 0) && is_at names (rank_of s - 1) name
 
 -- the place of this name in slots of a group
 abbrev pub in_slots : ℕ → List (List ℕ) → List ℕ → List Slot → Option ℕ
-in_slots tag names name slots = option_map (λ s. s.rank - 1) (find (slot_has tag names name) slots)
+in_slots tag names name slots = option_map (λ s. rank_of s - 1) (find (slot_has tag names name) slots)
 
 -- the slots of a group, or none
 abbrev pub slots_of : Option Group → List Slot
@@ -57,7 +62,7 @@ slots_at groups i = slots_of (slice_get groups i)
 
 -- the last slot of a group is free: slots are filled from the first on
 abbrev pub has_room : List Slot → Bool
-has_room slots = is_zero (slice_get slots 7)
+has_room slots = is_zero (slice_get slots 11)
 
 -- the place that groups and a tree give for a name
 abbrev pub found_in : List Group → BTreeMap (List ℕ) ℕ → List (List ℕ) → List ℕ → Option ℕ
@@ -67,7 +72,7 @@ found_in groups others names name =
 
 -- no slot has a place beyond this number of places
 abbrev pub AreWithin : ℕ → List Slot → Type 0
-AreWithin count slots = AllByRecursion (λ s. s.rank ≤ count) slots
+AreWithin count slots = AllByRecursion (λ s. rank_of s ≤ count) slots
 
 -- groups and a tree find exactly these names, each at its place, and a name whose group has room isn't in the tree
 pub record AreFound (groups : List Group) (others : BTreeMap (List ℕ) ℕ) (names : List (List ℕ)) : Type 0 where
@@ -100,8 +105,11 @@ has_room_for groups name = has_room (slots_at groups (group_of (length groups) (
 -- a free slot took the place of a name
 pub record FillsSlot (before after : List Slot) (tag place : ℕ) : Type 0 where
   pub at : ℕ
-  pub free : option_map (λ s. s.rank) (slice_get before at) ≡ Some 0
-  pub now : after ≡ set before at (record { tag = tag; rank = place + 1 })
+  pub slot : Slot
+  pub free : option_map (λ s. rank_of s) (slice_get before at) ≡ Some 0
+  pub tagged : slot.tag ≡ tag
+  pub ranked : rank_of slot ≡ place + 1
+  pub now : after ≡ set before at slot
 
 -- a free slot of the group that a name's hash points to took its place
 pub record FillsGroup (before after : List Group) (name : List ℕ) (place : ℕ) : Type 0 where
@@ -110,8 +118,8 @@ pub record FillsGroup (before after : List Group) (name : List ℕ) (place : ℕ
   pub now : after ≡ set before (group_of (length before) (hash_of name)) (record { slots = slots })
 
 -- a group whose slots are free
-abbrev pub free_group : Group
-free_group = record { slots = replicate 8 (record { tag = 0; rank = 0 }) }
+unfoldable pub free_group : Group
+free_group = record { slots = replicate 12 (record { tag = 0; rank = replicate 4 0 }) }
 
 -- groups and a tree find each of these names at its place, and no name stands twice
 pub record AreNamesKept (groups : List Group) (others : BTreeMap (List ℕ) ℕ) (names : List (List ℕ)) : Type 0 where

@@ -12,11 +12,11 @@ use std::alloc::{AllocError, Global};
 use std::collections::BTreeMap;
 
 /// How many names a group holds on average before there are more groups.
-const LOAD: usize = 5;
+const LOAD: usize = 8;
 /// How many times as many groups there are then.
-const GROWTH: usize = 4;
+const GROWTH: usize = 2;
 /// How many names a group holds on average if their number is known beforehand. Few groups are full then.
-const SPARE_LOAD: usize = 3;
+const SPARE_LOAD: usize = 6;
 /// How many groups the first names have.
 const FIRST_GROUPS: usize = 16;
 
@@ -129,7 +129,8 @@ fn group_of(count: usize, hash: u64) -> usize
     (hash / (1 << 32)) as usize % count
 }
 
-/// So many groups whose slots are free.
+/// This number of groups whose slots are free.
+#[tactic(auto, unfolding(crate::specs::Hashing::free_group))]
 fn free_groups(alloc: Global, count: usize) -> Result<Vec<Group>, AllocError>
     ensures { IfOk result (λ groups. groups.items ≡ replicate count free_group) }
 {

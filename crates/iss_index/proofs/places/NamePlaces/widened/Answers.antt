@@ -1,6 +1,9 @@
 use Rattle.std.proofs.Common.{◌<◌, length, take, rules}
-use Rattle.iss_index.proofs.Hashed.{next_at, next_new, next_found}
+use Rattle.iss_index.proofs.Hashed.{next_at, next_new, next_found, found_none}
 use Rattle.iss_index.proofs.places.NamePlaces.widened.Goals as goal
+
+pub loop-place-init : goal.loop-place-init
+loop-place-init c = found_none c.max-count.result c.in_ok-free_groups.field-0.items c.new.result c.in_ok-free_groups.ensures c.new.ensures.empty
 
 pub loop-place-preserved : goal.loop-place-preserved
 loop-place-preserved c =
