@@ -12,7 +12,7 @@ const SLOTS: usize = 12;
 
 /// A part of a name's hash, and its place counted from 1. A free slot has 0 there.
 ///
-/// The place is kept in bytes, the lowest first: so a slot takes five, and a group fits a line of the cache.
+/// The place is kept as its bytes, the lowest first. So a slot takes five bytes, and not eight as with a number.
 #[derive(Clone, Copy)]
 pub(crate) struct Slot {
     tag: u8,
@@ -27,7 +27,10 @@ pub(crate) struct Group {
 
 /// A group whose slots are free.
 pub(crate) const FREE: Group = Group {
-    slots: [Slot { tag: 0, rank: [0; 4] }; SLOTS],
+    slots: [Slot {
+        tag: 0,
+        rank: [0; 4],
+    }; SLOTS],
 };
 
 /// The hash of a name.

@@ -13,7 +13,7 @@ use std::marker::Model;
 
 /// Names in the order in which they were added, no two alike. Contracts see their list.
 ///
-/// A name's hash points to a group of eight slots, one of which has its place. Names come from outside, and the hash is
+/// A name's hash points to a group of twelve slots, one of which has its place. Names come from outside, and the hash is
 /// known to everybody. So a name whose group is full has its place in a tree. There no choice of names makes a look-up
 /// slow.
 #[derive(Drop)]

@@ -14,11 +14,11 @@ use std::collections::BTreeMap;
 /// How many names a group holds on average before there are more groups.
 const LOAD: usize = 8;
 /// How many times as many groups there are then.
-const GROWTH: usize = 2;
+const GROWTH: usize = 3;
 /// How many names a group holds on average if their number is known beforehand. Few groups are full then.
 const SPARE_LOAD: usize = 6;
 /// How many groups the first names have.
-const FIRST_GROUPS: usize = 16;
+const FIRST_GROUPS: usize = 12;
 
 /// The places of names in a list that stands elsewhere.
 #[derive(Drop)]
@@ -99,6 +99,17 @@ impl NamePlaces {
         if self.put_in_group(name, place) {
             return Ok(());
         }
+        self.put_in_tree(name, place)
+    }
+
+    /// Puts the place of a name whose group is full into the tree. Few names come to this, so it is kept out of `put`.
+    #[cold]
+    #[inline(never)]
+    fn put_in_tree(&mut self, name: &Token, place: u32) -> Result<(), AllocError>
+        requires full { has_room_for self.old.groups.items name.now ≡ false }
+        ensures put { OnOk result (PutsPlace self.old self.new name.now place) }
+        ensures refused { OnErr result (StaysFound self.old self.new) }
+    {
         self.others.insert(*name, place)?;
         Ok(())
     }
