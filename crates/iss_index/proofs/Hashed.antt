@@ -134,8 +134,8 @@ not_free place s ranked = ap (λ (n : ℕ). n == 0) ranked ∙ above place
     above n = grind (arith)
 
 -- the slot of the last name, which has it if the tag is its own
-last_has : (tag : ℕ) (names : List (List ℕ)) (k q : List ℕ) (own place : ℕ) (s : Slot) → s.tag ≡ own → rank_of s ≡ place + 1 → place ≡ length names
-    → slot_has tag (names ++ k ∷ []) q s ≡ ((own == tag) && bytes_eq k q)
+last_has : (tag : ℕ) (names : List (List ℕ)) (k q : List ℕ) (own place : ℕ) (s : Slot)
+    → s.tag ≡ own → rank_of s ≡ place + 1 → place ≡ length names → slot_has tag (names ++ k ∷ []) q s ≡ ((own == tag) && bytes_eq k q)
 last_has tag names k q own place s tagged ranked is =
     let there : is_at (names ++ k ∷ []) (rank_of s - 1) q ≡ bytes_eq k q = ap (λ (i : ℕ). is_at (names ++ k ∷ []) i q) (omega (arith, ranked, is)) ∙ at_last names k q in
     let taken : (rank_of s == 0) ≡ false = not_free place s ranked in
@@ -169,7 +169,8 @@ module _ (names : List (List ℕ)) (k : List ℕ) (place own : ℕ) (before afte
       ∙ ap (option_map (λ (s : Slot). rank_of s - 1))
       (find_set_other (slot_has tag (names ++ k ∷ []) q) before fills.at fills.slot
       (λ x there. free_has tag (names ++ k ∷ []) q x (free_slot_is before fills.at fills.free x there))
-      (last_has tag names k q own place fills.slot fills.tagged fills.ranked is ∙ ap (λ (b : Bool). (own == tag) && b) apart ∙ never (own == tag))
+      (last_has tag names k q own place fills.slot fills.tagged fills.ranked is
+      ∙ ap (λ (b : Bool). (own == tag) && b) apart ∙ never (own == tag))
       ∙ slots_more tag names k q before within)
     where
       never : (t : Bool) → (t && false) ≡ false
@@ -300,7 +301,8 @@ module _ (before after : List Group) (others : BTreeMap (List ℕ) ℕ) (k : Lis
       ∙ filled_here names k place (tag_of (hash_of k)) (slots_at before (group_of (length before) (hash_of k))) fills.slots own_within is fills.fills k same clear)
 
   -- a group that has room had it
-  room_stays : (before after : List Slot) (place tag : ℕ) → FillsSlot before after tag place → has_room after ≡ true → has_room before ≡ true
+  room_stays : (before after : List Slot) (place tag : ℕ) → FillsSlot before after tag place
+      → has_room after ≡ true → has_room before ≡ true
   room_stays before after place tag fills room =
       ⊎_elim (λ e. taken e) (λ e. ap is_zero (sym (get_set_other before fills.at 11 fills.slot e)) ∙ now) (cases_eq 11 fills.at)
     where
@@ -408,7 +410,8 @@ unfolding rank_of
 free_is = refl
 
 -- what holds of a free slot, in a row of them
-all_free : (P : Slot → Type 0) (count : ℕ) → P (record { tag = 0; rank = replicate 4 0 }) → AllByRecursion P (replicate count (record { tag = 0; rank = replicate 4 0 }))
+all_free : (P : Slot → Type 0) (count : ℕ) → P (record { tag = 0; rank = replicate 4 0 })
+    → AllByRecursion P (replicate count (record { tag = 0; rank = replicate 4 0 }))
 all_free P zero own = tt
 all_free P (suc count) own = (own, all_free P count own)
 
