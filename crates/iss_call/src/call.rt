@@ -1,6 +1,6 @@
 //! One call, and why it can't be closed.
-ghost use Rattle.std.specs.Prelude.{◌≡◌, Some};
-ghost use Rattle.iss_call.specs.States.{seen_call, call_state_of};
+ghost use Rattle.std.specs.Prelude.{◌≡◌};
+ghost use Rattle.iss_call.specs.States.{state_by};
 
 use iss_model::{CallState, How, Opened};
 
@@ -16,14 +16,12 @@ pub struct Call {
 #[derive(Clone, Copy, Debug, PartialEq, Eq)]
 pub struct NotOpen(pub CallState);
 
-impl Call {
-    /// Asked, or closed and how.
-    pub fn state(&self) -> CallState
-        ensures { result ≡ call_state_of (Some (seen_call self.now)) }
-    {
-        match self.how {
-            None => CallState::Asked,
-            Some(how) => CallState::Closed(how),
-        }
+/// The state of a call that was closed in this way, or is still asked.
+pub(crate) fn state_of(how: Option<How>) -> CallState
+    ensures { result ≡ state_by how }
+{
+    match how {
+        None => CallState::Asked,
+        Some(how) => CallState::Closed(how),
     }
 }

@@ -1,15 +1,17 @@
 //! All calls by number.
 ghost use Rattle.std.specs.Prelude.{◌≡◌, ◌↔◌, [], ◌∷◌, ◌++◌, ◌+◌, map, not, length, None, IfOk, IfErr, IsOk, OnOk, OnErr};
 ghost use Rattle.std.specs.List.{filter};
-ghost use Rattle.std.specs.Option.{option_copied, option_map};
+ghost use Rattle.std.specs.Option.{option_map};
 ghost use Rattle.iss_model.specs.declared.call.CallState.TheVariants as call_state;
 ghost use Rattle.iss_model.specs.rules.Activity.{call_numbered, is_asked};
 ghost use Rattle.iss_model.specs.rules.Due.{call_due, is_quiet};
 ghost use Rattle.iss_model.specs.state.Cores.{with_closed};
 ghost use Rattle.iss_call.specs.States.{seen_call, state_in, calls_due, asked_of, looked_up, AreMarks};
 
-use crate::call::{Call, NotOpen};
+use crate::call::{Call, NotOpen, state_of};
 use crate::orders::Orders;
+use crate::rows::{CallRow, call_of, marks_of, row_numbered, row_of, txn_of};
+use iss_index::Names;
 use iss_model::{CallId, CallState, How, Opened, Token};
 use std::alloc::{AllocError, Global};
 use std::collections::{BTreeMap, BTreeSet};
@@ -18,22 +20,22 @@ use std::marker::Model;
 /// The calls in the order of their numbers. Contracts see their list.
 #[derive(Drop)]
 pub struct Calls {
-    calls: Vec<Call>,
+    rows: Vec<CallRow>,
+    names: Names,
     orders: Orders,
 }
 
 impl Model for Calls {
-    ghost use Rattle.std.specs.Prelude.{List, map};
+    ghost use Rattle.std.specs.Prelude.{List};
     ghost use Rattle.iss_model.specs.rules.Activity.{CallNow};
 
     ghost Value = { List CallNow };
 
-    ghost use Rattle.iss_call.specs.States.{seen_call};
-    ghost use Rattle.iss_call.specs.Orders.{AreOrdered};
+    ghost use Rattle.iss_call.specs.Named.{calls_in, AreKept};
 
-    ghost view = { λ c. map seen_call c.calls.items };
+    ghost view = { λ c. calls_in c.names 1 c.rows.items };
 
-    ghost invariant = { λ c. AreOrdered (map seen_call c.calls.items) c.orders };
+    ghost invariant = { λ c. AreKept c.names c.rows.items c.orders };
 }
 
 impl Calls {
@@ -42,7 +44,8 @@ impl Calls {
         ensures { IfOk result (λ calls. calls ≡ []) }
     {
         Ok(Calls {
-            calls: Vec::new(alloc),
+            rows: Vec::new(alloc),
+            names: Names::new(alloc),
             orders: Orders {
                 deadlines: BTreeSet::new(alloc),
                 txns: BTreeSet::new(alloc),
@@ -56,13 +59,11 @@ impl Calls {
         ensures asked { OnOk result (self.new ≡ self.old ++ record { opened = opened.now; how = None } ∷ []) }
         ensures unchanged { OnErr result (self.new ≡ self.old) }
     {
-        self.calls.reserve(1)?;
+        self.rows.reserve(1)?;
+        let row = row_of(&mut self.names, opened, self.rows.last())?;
         self.orders
             .enter(opened.call.0, opened.deadline, &opened.txn)?;
-        self.calls.push(Call {
-            opened: *opened,
-            how: None,
-        })?;
+        self.rows.push(row)?;
         Ok(())
     }
 
@@ -73,7 +74,7 @@ impl Calls {
         ensures closed { self.new ≡ with_closed self.old id how }
         ensures unchanged { OnErr result (self.new ≡ self.old) }
     {
-        let _calls = &self.calls;
+        let _names = &self.names;
         match self.state(id) {
             CallState::Asked => {
                 self.close_asked(id, how);
@@ -84,35 +85,35 @@ impl Calls {
     }
 
     /// A call as it stands, `None` exactly if it was never asked.
-    pub fn get(&self, id: CallId) -> Option<&Call>
-        ensures { option_map (λ call. seen_call call.now) result ≡ call_numbered id.0 self.now }
+    pub fn get(&self, id: CallId) -> Option<Call>
+        ensures { option_map seen_call result ≡ call_numbered id.0 self.now }
     {
-        let calls = self.calls.as_slice();
-        calls.get((id.0 as usize).checked_sub(1)?)
+        let row = row_numbered(&self.rows, id)?;
+        Some(call_of(&self.names, id, row))
     }
 
     /// The state of a call, `Unknown` exactly if it was never asked.
     pub fn state(&self, id: CallId) -> CallState
         ensures { result ≡ state_in self.now id.0 }
     {
-        match self.get(id) {
-            Some(call) => call.state(),
+        match row_numbered(&self.rows, id) {
+            Some(row) => state_of(row.how),
             None => CallState::Unknown,
         }
     }
 
     /// A call as it was opened, `None` exactly if it was never asked.
-    pub fn opened(&self, id: CallId) -> Option<&Opened>
-        ensures { option_copied result ≡ option_map (λ c. c.opened) (call_numbered id.0 self.now) }
+    pub fn opened(&self, id: CallId) -> Option<Opened>
+        ensures { result ≡ option_map (λ c. c.opened) (call_numbered id.0 self.now) }
     {
-        self.get(id).map(|call| &call.opened)
+        self.get(id).map(|call| call.opened)
     }
 
     /// How many calls were asked, which is the number of the last.
     pub fn count(&self) -> u32
         ensures { result ≡ length self.now }
     {
-        self.calls.len() as u32
+        self.rows.len() as u32
     }
 
     /// How many calls are still asked.
@@ -139,7 +140,7 @@ impl Calls {
     pub fn asked_opened(&self, alloc: Global) -> Result<Vec<Opened>, AllocError>
         ensures { IfOk result (λ v. v.items ≡ map (λ c. c.opened) (filter is_asked self.now)) }
     {
-        let _calls = &self.calls;
+        let _names = &self.names;
         let ids = self.asked(alloc)?;
         self.opened_of(alloc, &ids)
     }
@@ -180,7 +181,7 @@ impl Calls {
     pub fn asked_of(&self, alloc: Global, txn: &Token) -> Result<Vec<Opened>, AllocError>
         ensures { IfOk result (λ v. v.items ≡ map (λ c. c.opened) (asked_of self.now txn.now)) }
     {
-        let _calls = &self.calls;
+        let _names = &self.names;
         let ids = self.of_txn(alloc, txn)?;
         self.opened_of(alloc, &ids)
     }
@@ -189,7 +190,7 @@ impl Calls {
     pub fn marks(&self, alloc: Global) -> Result<BTreeMap<Token, CallState>, AllocError>
         ensures { IfOk result (AreMarks self.now) }
     {
-        marks_of(alloc, &self.calls)
+        marks_of(alloc, &self.rows)
     }
 
     /// The calls of these numbers as they were opened, if there are such.
@@ -210,20 +211,9 @@ impl Calls {
         requires { state_in self.old id.0 ≡ call_state.Asked }
         ensures { self.new ≡ with_closed self.old id how }
     {
-        let call = &mut self.calls[id.0 as usize - 1];
-        call.how = Some(how);
-        let opened = &call.opened;
-        self.orders.leave(id.0, opened.deadline, &opened.txn);
+        let row = &mut self.rows[id.0 as usize - 1];
+        row.how = Some(how);
+        self.orders
+            .leave(id.0, row.deadline, txn_of(&self.names, row));
     }
-}
-
-/// How the first call of each event stands. Later calls go in first, so that earlier ones take their place.
-fn marks_of(alloc: Global, calls: &[Call]) -> Result<BTreeMap<Token, CallState>, AllocError>
-    ensures { IfOk result (AreMarks (map seen_call calls.now)) }
-{
-    let mut marks = BTreeMap::new(alloc);
-    for call in calls.iter().rev() {
-        marks.insert(call.opened.event, call.state())?;
-    }
-    Ok(marks)
 }

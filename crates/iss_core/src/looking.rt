@@ -51,7 +51,7 @@ impl State {
     pub(crate) fn call(&self, call: CallId) -> Option<Call>
         ensures { option_map seen_call result ≡ call_numbered call.0 (facts_of self.now).calls }
     {
-        self.calls.get(call).copied()
+        self.calls.get(call)
     }
 
     /// The number of the next notice.

@@ -81,10 +81,10 @@ impl Core {
     }
 
     /// A call as it was opened, `None` exactly if it was never asked.
-    pub fn opened(&self, call: CallId) -> Option<&Opened>
-        ensures value { option_copied result ≡ option_map (λ c. c.opened) (call_in (core_facts self.now.state) call.0) }
+    pub fn opened(&self, call: CallId) -> Option<Opened>
+        ensures value { result ≡ option_map (λ c. c.opened) (call_in (core_facts self.now.state) call.0) }
         ensures on_book { (rs : List Record) → CoreStandsFor self.now rs
-            → option_copied result ≡ option_map (λ c. c.opened) (call_in (book_facts rs) call.0) }
+            → result ≡ option_map (λ c. c.opened) (call_in (book_facts rs) call.0) }
     {
         self.state.calls.opened(call)
     }

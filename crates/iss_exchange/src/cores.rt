@@ -39,7 +39,7 @@ pub(crate) fn calls_of(alloc: Global, core: &Core) -> Result<Vec<Opened>, AllocE
     let mut calls = Vec::new(alloc);
     let mut count = 0;
     'calls: while let Some(opened) = core.opened(CallId(count + 1)) {
-        push(&mut calls, opened)?;
+        push(&mut calls, &opened)?;
         count += 1;
     }
     Ok(calls)

@@ -9,5 +9,5 @@ use Rattle.iss_call.proofs.calls.Calls.asked_of.Goals as goal
 pub returns : goal.returns
 returns c =
     IfOk-weaker c.opened_of.result _ _
-    (λ v e. e ∙ found_by c.args.self.now (λ x. is_asked x && bytes_eq x.opened.txn c.args.txn.now) c.deref.result.now (subst (AreNumbered 1) c.self.view_is c.self.invariant.numbered) (c.deref.ensures.value ∙ c.in_ok-ids.ensures))
+    (λ v e. e ∙ found_by c.args.self.now (λ x. is_asked x && bytes_eq x.opened.txn c.args.txn.now) c.deref.result.now (subst (AreNumbered 1) c.self.view_is c.self.invariant.ordered.numbered) (c.deref.ensures.value ∙ c.in_ok-ids.ensures))
     c.opened_of.ensures

@@ -10,7 +10,7 @@ returns-in_default c =
       exactly = (λ e. absurd (true≢false (sym e)), λ e. absurd (c.in_default.not-Asked (c.state.ensures ∙ e)));
       state = c.state.ensures;
       closed =
-          sym (not_asked_stays 1 c.args.self.now c.args.id.0 c.args.how (subst (λ (cs : List CallNow). AreNumbered 1 cs) c.self.view_is c.self.invariant.numbered)
+          sym (not_asked_stays 1 c.args.self.now c.args.id.0 c.args.how (subst (λ (cs : List CallNow). AreNumbered 1 cs) c.self.view_is c.self.invariant.ordered.numbered)
           (λ e. c.in_default.not-Asked (c.state.ensures ∙ e)));
       unchanged = refl;
     }
