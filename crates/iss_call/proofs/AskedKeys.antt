@@ -118,11 +118,6 @@ length_set [] i c = refl
 length_set (x ∷ cs) zero c = refl
 length_set (x ∷ cs) (suc i) c = ap suc (length_set cs i c)
 
--- no call, and empty orders
-pub ordered_none : (cs : List CallNow) (orders : Orders) → cs ≡ [] → orders.deadlines.keys ≡ [] → orders.txns.keys ≡ [] → AreOrdered cs orders
-ordered_none [] orders e d t = record { numbered = tt; few = omega arith; deadlines = d; txns = t }
-ordered_none (x ∷ cs) orders e d t = cc
-
 -- a call of the next number has no key yet
 pub no_key_yet : (cs : List CallNow) (orders : Orders) (o : Opened) → AreOrdered cs orders → o.call.0 ≡ length cs + 1
     → list_any (is_at (by_deadline (deadline_key o))) orders.deadlines.keys ≡ false
@@ -179,7 +174,3 @@ ordered_same cs old new a d t = record { numbered = a.numbered; few = a.few; dea
 -- the key that failed to be entered is taken out again
 pub entered_and_left : (k : ℕ × ℕ) (ks : List (ℕ × ℕ)) → list_any (is_at (by_deadline k)) ks ≡ false → remove_key (is_at (by_deadline k)) (insert_key by_deadline ks k) ≡ ks
 entered_and_left k ks none = taken_out by_deadline_total k ks none
-
-pub map_push : {A B : Type 0} (f : A → B) (xs : List A) (x : A) → map f (xs ++ x ∷ []) ≡ map f xs ++ f x ∷ []
-map_push f [] x = refl
-map_push f (a ∷ xs) x = ap (λ bs. f a ∷ bs) (map_push f xs x)
