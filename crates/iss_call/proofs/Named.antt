@@ -1,18 +1,16 @@
 -- Calls in rows whose names are kept once, as names are added and calls change.
-use Rattle.std.proofs.Common.{◌≡◌, ℕ, zero, suc, ◌+◌, ◌<◌, Bool, true, cond, List, [], ◌∷◌, ◌++◌, length, set, refl, sym, ap, ap₂, ◌∙◌, subst, arith, Bor}
+use Rattle.std.proofs.Common.{◌≡◌, ℕ, zero, suc, ◌+◌, List, [], ◌∷◌, ◌++◌, length, set, refl, sym, ap, ap₂, ◌∙◌, subst, arith}
 use Rattle.std.specs.Prelude.{Option, Some, None, Result, Ok, Err, OnOk, OnErr, IfOk, IsSome, slice_get, unwrap_or}
 use Rattle.std.specs.Option.{option_map}
 use Rattle.iss_index.specs.Places.{place_of}
 use Rattle.iss_index.proofs.Placed.{place_there}
 use Rattle.iss_model.specs.declared.call.How.{How}
-use Rattle.iss_model.specs.declared.call.Opened.{Opened}
 use Rattle.iss_model.specs.rules.Activity.{CallNow, call_numbered}
-use Rattle.iss_call.specs.declared.orders.Orders.{Orders}
 use Rattle.iss_call.specs.declared.rows.CallRow.{CallRow}
 use Rattle.iss_call.specs.declared.rows.TxnName.{TxnName}
 use Rattle.iss_call.specs.declared.rows.TxnName.TheVariants.{OfEvent, Other}
 use Rattle.iss_call.specs.Orders.{AreNumbered}
-use Rattle.iss_call.specs.Named.{IsGrown, name_in, txn_in, IsTxnNamed, IsNamed, AreNamed, call_in, calls_in, row_numbered}
+use Rattle.iss_call.specs.Named.{IsGrown, txn_in, IsTxnNamed, IsNamed, AreNamed, call_in, calls_in, row_numbered}
 use Rattle.iss_call.proofs.Numbered.{found_at, none_at_0}
 
 -- ---- one more name

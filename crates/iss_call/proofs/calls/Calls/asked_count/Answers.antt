@@ -1,4 +1,4 @@
-use Rattle.std.proofs.Common.{ℕ, List, length, filter, map, ap, ◌∙◌}
+use Rattle.std.proofs.Common.{ℕ, List, length, filter, ap, ◌∙◌}
 use Rattle.iss_model.specs.rules.Activity.{CallNow, is_asked}
 use Rattle.iss_call.specs.Named.{calls_in}
 use Rattle.iss_call.proofs.ByNumber.{keys_count}

@@ -1,6 +1,5 @@
 use Rattle.std.proofs.Common.{◌≡◌, List, length, sym, ap, ◌∙◌, arith}
 use Rattle.iss_model.specs.rules.Activity.{CallNow}
-use Rattle.iss_call.specs.Named.{calls_in}
 use Rattle.iss_call.proofs.Named.{calls_length}
 use Rattle.iss_call.proofs.calls.Calls.count.Goals as goal
 

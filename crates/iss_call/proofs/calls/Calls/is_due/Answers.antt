@@ -1,4 +1,4 @@
-use Rattle.std.proofs.Common.{List, ◌<◌, length, not, map, ap, ◌∙◌}
+use Rattle.std.proofs.Common.{List, ◌<◌, length, not, ap, ◌∙◌}
 use Rattle.iss_model.specs.rules.Activity.{CallNow}
 use Rattle.iss_model.specs.rules.Due.{is_quiet}
 use Rattle.iss_call.specs.Named.{calls_in}
