@@ -1,8 +1,8 @@
 -- What is kept in few bytes if it changes.
-use Rattle.std.proofs.Common.{◌≡◌, ℕ, ◌+◌, ◌≤◌, true, List, [], ◌∷◌, ◌++◌, length, find, Some, None, get_or, set, sym, ap, ap₂, subst, ◌∙◌}
+use Rattle.std.proofs.Common.{◌≡◌, ℕ, ◌+◌, ◌≤◌, true, List, [], ◌∷◌, ◌++◌, length, find, Some, None, get_or, set, sym, ap, ap₂, subst, ◌∙◌, arith}
 use Rattle.std.proofs.lemmas.List.{map-append}
 use Rattle.iss_model.specs.declared.decision.Verdict.{Verdict}
-use Rattle.iss_model.specs.declared.input.Input.{Input}
+use Rattle.iss_model.specs.declared.input.Record.{Record}
 use Rattle.iss_model.specs.Inputs.{event_token, is_event}
 use Rattle.iss_model.specs.texts.Spelling.{spelling, is_record}
 use Rattle.iss_model.specs.rules.Facts.{Accepted}
@@ -10,14 +10,13 @@ use Rattle.iss_index.specs.Places.{place_of}
 use Rattle.iss_accepted.specs.declared.row.EventRow.{EventRow}
 use Rattle.iss_accepted.specs.declared.short.ShortRow.{ShortRow}
 use Rattle.iss_accepted.specs.declared.short.ShortVerdict.{ShortVerdict}
-use Rattle.iss_accepted.specs.declared.short.ShortVerdict.TheVariants as short
 use Rattle.iss_accepted.specs.Values.{EventsNow, with_decision}
 use Rattle.iss_accepted.specs.Standing.{decision_named}
 use Rattle.iss_accepted.specs.Kept.{standings_of, events_now, IsKept}
-use Rattle.iss_accepted.specs.Short.{verdict_of, short_of, other_of, row_of, rows_of, IsWithin, IsKeptShort}
-use Rattle.iss_accepted.proofs.Spans.{record_with, all_last}
+use Rattle.iss_accepted.specs.Short.{verdict_of, code_of, other_of, row_of, rows_of, IsWithin, IsKeptShort}
+use Rattle.iss_accepted.proofs.Spans.{all_last}
 use Rattle.iss_accepted.proofs.Steps.{kept_none, placed_within, row_spelled, decided_kept, decided_view}
-use Rattle.iss_accepted.proofs.Added.{with_input, grown_shows, added_shows}
+use Rattle.iss_accepted.proofs.Added.{with_record, grown_shows, added_shows}
 use Rattle.iss_accepted.proofs.Shortened.{AreWithin, whole_at, rows_stay, all_within, rows_noted, all_noted}
 
 -- what is kept agrees, and shows these events
@@ -60,16 +59,16 @@ module _ (bytes : List ℕ) (others : List Verdict) (rows : List ShortRow) (name
       }
 
   -- an event is added
-  pub event_more : (all : List ℕ) (rows_now : List ShortRow) (names_now : List (List ℕ)) (row : ShortRow) (i : Input) (token : List ℕ)
-      → all ≡ bytes ++ spelling (record_with (row_of others row) i) → row.start ≡ length bytes → row.start + row.length ≡ length all
-      → is_record (record_with (row_of others row) i) ≡ true → row.verdict ≡ short.Open
-      → event_token i ≡ Some token → find (λ (a : Accepted). is_event token a.input) value.accepted ≡ None
+  pub event_more : (all : List ℕ) (rows_now : List ShortRow) (names_now : List (List ℕ)) (row : ShortRow) (r : Record) (token : List ℕ)
+      → all ≡ bytes ++ spelling r → row.start ≡ length bytes → row.start + row.length ≡ length all
+      → is_record r ≡ true → row.verdict.code ≡ 0
+      → event_token r.input ≡ Some token → find (λ (a : Accepted). is_event token a.input) value.accepted ≡ None
       → names_now ≡ names ++ token ∷ [] → rows_now ≡ rows ++ row ∷ []
-      → ShowsShort all others rows_now names_now decided (with_input value (row_of others row) i)
-  event_more all rows_now names_now row i token added begins ends form pending own unknown noted pushed =
+      → ShowsShort all others rows_now names_now decided (with_record value row.number r)
+  event_more all rows_now names_now row r token added begins ends form pending own unknown noted pushed =
       let shows =
-      added_shows bytes (rows_of others rows) names decided value kept.kept view all (rows_of others rows_now) names_now (row_of others row) i token
-      added begins ends form (open_ row.verdict pending) own unknown noted
+      added_shows bytes (rows_of others rows) names decided value kept.kept view all (rows_of others rows_now) names_now (row_of others row) r token
+      added begins ends form (ap (verdict_of others) pending) own unknown noted
       (ap (rows_of others) pushed ∙ map-append (row_of others) rows (row ∷ []))
       in
       record {
@@ -77,14 +76,10 @@ module _ (bytes : List ℕ) (others : List Verdict) (rows : List ShortRow) (name
           kept = shows.kept;
           within =
               subst (AreWithin others) (sym pushed)
-              (all_last (λ r. IsWithin (length others) r.verdict) rows row kept.within
-              (subst (IsWithin (length others)) (sym pending) tt));
+              (all_last (λ r. IsWithin (length others) r.verdict.code) rows row kept.within (omega (arith, pending)));
         };
         view = shows.view;
       }
-    where
-      open_ : (v : ShortVerdict) → v ≡ short.Open → verdict_of others v ≡ None
-      open_ v is = ap (verdict_of others) is
 
   -- the row of a token
   module _ (token : List ℕ) (place : ℕ) (row : ShortRow) (is : Some place ≡ place_of token names) (own : row ≡ get_or rows place row) where
@@ -101,13 +96,13 @@ module _ (bytes : List ℕ) (others : List Verdict) (rows : List ShortRow) (name
   pub verdict_more : (token : List ℕ) (place : ℕ) (row : ShortRow) → Some place ≡ place_of token names → row ≡ get_or rows place row
       → (v : Verdict) → decision_named token value.decisions ≡ None
       → (others_now : List Verdict) (rows_now : List ShortRow) (decided_now : List ℕ) (kept_so : ShortVerdict)
-      → kept_so ≡ short_of (length others) v → others_now ≡ others ++ other_of v → rows_now ≡ set rows place (record row { verdict = kept_so }) → decided_now ≡ decided ++ place ∷ []
+      → kept_so.code ≡ code_of (length others) v → others_now ≡ others ++ other_of v → rows_now ≡ set rows place (record row { verdict = kept_so }) → decided_now ≡ decided ++ place ∷ []
       → ShowsShort bytes others_now rows_now names decided_now (with_decision value token v)
   verdict_more token place row is own v undecided others_now rows_now decided_now kept_so so grown set_so pushed =
       let below = placed_within bytes (rows_of others rows) names decided value token kept.kept view place is in
       let whole = whole_at others rows place row below own in
-      let now : rows_now ≡ set rows place (record row { verdict = short_of (length others) v }) =
-      set_so ∙ ap (λ (s : ShortVerdict). set rows place (record row { verdict = s })) so
+      let now : rows_now ≡ set rows place (record row { verdict = record { code = code_of (length others) v } }) =
+      set_so ∙ ap (λ (code : ℕ). set rows place (record row { verdict = record { code = code } })) so
       in
       let rows_are : rows_of others_now rows_now ≡ set (rows_of others rows) place (record (row_of others row) { verdict = Some v }) =
       ap₂ rows_of grown now ∙ rows_noted others rows place row v kept.within

@@ -3,7 +3,6 @@ use Rattle.std.proofs.Common.{◌≡◌, ℕ, ◌-◌, ◌≤◌, true, List, []
 use Rattle.std.specs.Prelude.{IsSome}
 use Rattle.std.specs.List.{AllByRecursion}
 use Rattle.std.proofs.lemmas.List.{take-append-le, drop-append-le, drop_at, take_all, length-drop}
-use Rattle.iss_model.specs.declared.input.Input.{Input}
 use Rattle.iss_model.specs.declared.input.Record.{Record}
 use Rattle.iss_model.specs.Inputs.{event_token}
 use Rattle.iss_model.specs.texts.Spelling.{spelling, is_record}
@@ -11,7 +10,7 @@ use Rattle.iss_codec.specs.TakingRecords.{record_spelled}
 use Rattle.iss_codec.proofs.TakenRecords.{spelled_again}
 use Rattle.iss_accepted.specs.declared.row.EventRow.{EventRow}
 use Rattle.iss_accepted.specs.Standing.{Standing, IsNamed}
-use Rattle.iss_accepted.specs.Kept.{bytes_of, input_read, record_of, standing_of, standings_of, IsSpelledIn}
+use Rattle.iss_accepted.specs.Kept.{bytes_of, record_read, event_by, record_of, standing_of, standings_of, IsSpelledIn}
 
 -- bytes within a buffer stay if more are added to it
 part_stays : (bytes more : List ℕ) (start end : ℕ) → start ≤ end → end ≤ length bytes
@@ -30,7 +29,7 @@ part_added bytes more start end begins ends =
 
 -- a standing by its row's bytes
 abbrev pub standing_by : EventRow → List ℕ → Standing
-standing_by row spelled = record { event = record { number = row.number; at = row.at; input = input_read (record_spelled spelled) }; verdict = row.verdict }
+standing_by row spelled = record { event = event_by row.number (record_read (record_spelled spelled)); verdict = row.verdict }
 
 pub standing_stays : (bytes more : List ℕ) (row : EventRow) → IsSpelledIn bytes row → standing_of (bytes ++ more) row ≡ standing_of bytes row
 standing_stays bytes more row spelled = ap (standing_by row) (part_stays bytes more row.start row.end spelled.begins spelled.within)
@@ -58,32 +57,28 @@ pub all_stay : (bytes more : List ℕ) (rows : List EventRow) → AllByRecursion
 all_stay bytes more [] spelled = tt
 all_stay bytes more (row ∷ rows) spelled = (spelled_stays bytes more row spelled.0, all_stay bytes more rows spelled.1)
 
--- the standing of a row whose bytes were added
-abbrev pub standing_new : EventRow → Input → Standing
-standing_new row i = record { event = record { number = row.number; at = row.at; input = i }; verdict = row.verdict }
+-- the standing of a row whose record's bytes were added
+abbrev pub standing_new : EventRow → Record → Standing
+standing_new row r = record { event = event_by row.number r; verdict = row.verdict }
 
--- the record of a row's stamp with this input
-abbrev pub record_with : EventRow → Input → Record
-record_with row i = record { at = row.at; input = i }
-
-module _ (bytes all : List ℕ) (row : EventRow) (i : Input) (added : all ≡ bytes ++ spelling (record_with row i)) (begins : row.start ≡ length bytes) (ends : row.end ≡ length all) (form : is_record (record_with row i) ≡ true) where
-  bytes_new : bytes_of all row ≡ spelling (record_with row i)
+module _ (bytes all : List ℕ) (row : EventRow) (r : Record) (added : all ≡ bytes ++ spelling r) (begins : row.start ≡ length bytes) (ends : row.end ≡ length all) (form : is_record r ≡ true) where
+  bytes_new : bytes_of all row ≡ spelling r
   bytes_new =
       ap (bytes_of_row) added
-      ∙ part_added bytes (spelling (record_with row i)) row.start row.end begins (ends ∙ ap (λ (xs : List ℕ). length xs) added)
+      ∙ part_added bytes (spelling r) row.start row.end begins (ends ∙ ap (λ (xs : List ℕ). length xs) added)
     where
       bytes_of_row : List ℕ → List ℕ
       bytes_of_row xs = bytes_of xs row
 
-  pub new_standing : standing_of all row ≡ standing_new row i
+  pub new_standing : standing_of all row ≡ standing_new row r
   new_standing =
       ap (standing_by row) bytes_new
-      ∙ ap (λ (o : Option Record). standing_new row (input_read o)) (spelled_again (record_with row i) form)
+      ∙ ap (λ (o : Option Record). standing_new row (record_read o)) (spelled_again r form)
 
-  pub new_spelled : IsSome (event_token i) → IsSpelledIn all row
+  pub new_spelled : IsSome (event_token r.input) → IsSpelledIn all row
   new_spelled named =
       record {
-        begins = omega (arith, begins, ends, ap (λ (xs : List ℕ). length xs) added, length-append bytes (spelling (record_with row i)));
+        begins = omega (arith, begins, ends, ap (λ (xs : List ℕ). length xs) added, length-append bytes (spelling r));
         within = omega (arith, ends);
         spelled = bytes_new ∙ ap (λ (s : Standing). spelling (record_of s.event)) (sym new_standing);
         form = subst (λ (s : Standing). is_record (record_of s.event) ≡ true) (sym new_standing) form;

@@ -5,7 +5,7 @@ use Rattle.std.specs.List.{AllByRecursion, IsDistinct, list_all}
 use Rattle.std.specs.Option.{option_and_then}
 use Rattle.std.specs.Str.{bytes_eq}
 use Rattle.std.proofs.lemmas.List.{get_or-map, get_or-set_same, length-map}
-use Rattle.std.proofs.lemmas.Option.{slice_get-get_or, same_Some}
+use Rattle.std.proofs.lemmas.Option.{slice_get-get_or, same_Some, none-some}
 use Rattle.std.proofs.lemmas.Bool.{and_parts}
 use Rattle.std.proofs.lemmas.Slice.Eq.{bytes_eq-Decides}
 use Rattle.iss_model.specs.declared.decision.Answer.{Answer}
@@ -17,10 +17,12 @@ use Rattle.iss_model.specs.declared.input.Record.{Record}
 use Rattle.iss_model.specs.Inputs.{event_token, is_event, same_contents}
 use Rattle.iss_model.specs.Forms.{is_stamp, is_in_form}
 use Rattle.iss_model.specs.Tokens.{is_token}
-use Rattle.iss_model.specs.texts.Spelling.{spelling, is_record, tokens_of, has_spelling}
+use Rattle.iss_model.specs.texts.Spelling.{spelling, kind_number, number_bytes, field_bytes, is_record, tokens_of, has_spelling}
 use Rattle.iss_model.specs.rules.Facts.{Accepted, Decision, reply_of_verdict, event_reply}
 use Rattle.iss_model.proofs.Names.{one_name, name-sym}
 use Rattle.iss_codec.specs.TakingRecords.{record_spelled}
+use Rattle.iss_codec.proofs.TakenFields.{byte_again}
+use Rattle.iss_codec.proofs.TakenParts.{stamp_field}
 use Rattle.iss_codec.proofs.TakenRecords.{spelled_again}
 use Rattle.iss_codec.proofs.EqualInputs.{same_exactly}
 use Rattle.iss_index.specs.Places.{place_of}
@@ -29,7 +31,7 @@ use Rattle.iss_accepted.specs.declared.row.EventRow.{EventRow}
 use Rattle.iss_model.specs.rules.Judging.{token_answer}
 use Rattle.iss_accepted.specs.Values.{EventsNow, events_facts, answer_in}
 use Rattle.iss_accepted.specs.Standing.{Standing, IsNamed, name_of, standing_named, decision_made, decisions_at, decision_named, AreDecided}
-use Rattle.iss_accepted.specs.Kept.{bytes_of, event_of, standing_of, standings_of, row_answer, events_now, IsSpelledIn, IsKept}
+use Rattle.iss_accepted.specs.Kept.{bytes_of, event_of, record_of, stamp_taken, standing_of, standings_of, row_answer, events_now, IsSpelledIn, IsKept}
 use Rattle.iss_accepted.proofs.Decided.{decided_more, decisions_more, with_verdict, nothing_decided}
 use Rattle.iss_accepted.proofs.Found.{event_in, event_found, reply_found, answer_found, standing_answer}
 
@@ -60,6 +62,31 @@ bytes_tell bytes at a b h k is =
     alike e =
         ap (λ (r : Record). r.input)
         (same_Some (of a) (of b) (sym (spelled_again (of a) h) ∙ ap record_spelled e ∙ spelled_again (of b) k))
+
+-- the stamp is read from the bytes of a record
+pub stamp_there : (bytes : List ℕ) (r : Record) → bytes ≡ spelling r → is_record r ≡ true → stamp_taken bytes ≡ Some r.at
+unfolding spelling
+stamp_there bytes r is form =
+    let stamped = (and_parts (is_stamp r.at) (has_spelling r.input) form).0 in
+    ap stamp_taken is
+    ∙ rw (byte_again (kind_number r.input) (number_bytes 8 r.at ++ field_bytes r.input), stamp_field.again r.at (field_bytes r.input) stamped) refl
+
+-- the answer by a row whose stamp was read from its bytes
+module _ (bytes : List ℕ) (row : EventRow) (token : List ℕ) (i : Input) (found : Option ℕ) (lies : IsSpelledIn bytes row) (taken : found ≡ stamp_taken (bytes_of bytes row)) where
+  stamp_found : found ≡ Some (event_of bytes row).at
+  stamp_found = taken ∙ stamp_there (bytes_of bytes row) (record_of (event_of bytes row)) lies.spelled lies.form
+
+  pub stamp_missing : found ≡ None → ⊥
+  stamp_missing none = none-some (event_of bytes row).at (sym none ∙ stamp_found)
+
+  pub row_answered : (at : ℕ) (same : Bool) → found ≡ Some at → same ≡ bytes_eq (bytes_of bytes row) (spelling (record { at = at; input = i }))
+      → row_answer bytes row token i ≡ cond same (answer.Repeat token (reply_of_verdict row.verdict)) (answer.Conflict token row.number)
+  row_answered at same is told =
+      let stamp : (event_of bytes row).at ≡ at = same_Some (event_of bytes row).at at (sym stamp_found ∙ is) in
+      ap (λ (n : ℕ). answered (bytes_eq (bytes_of bytes row) (spelling (record { at = n; input = i })))) stamp ∙ ap answered (sym told)
+    where
+      answered : Bool → Answer
+      answered b = cond b (answer.Repeat token (reply_of_verdict row.verdict)) (answer.Conflict token row.number)
 
 -- ---- each row
 
@@ -198,7 +225,7 @@ module _ (bytes : List ℕ) (rows : List EventRow) (names : List (List ℕ)) (de
         → told ≡ row_answer bytes row token i → Some told ≡ answer_in (events_facts value) i
     found_answered i told own_token form tokens is_told =
         ap (λ (a : Answer). Some a) is_told
-        ∙ chosen (bytes_eq (bytes_of bytes row) (spelling (record { at = row.at; input = i })))
+        ∙ chosen (bytes_eq (bytes_of bytes row) (spelling (record { at = (event_of bytes row).at; input = i })))
         ∙ ap (λ (b : Bool). cond b (Some repeat) (Some conflict)) same
         ∙ ap (standing_answer i token) found_standing
         ∙ sym (answer_found standing decided token named kept.verdicts i)
@@ -215,11 +242,11 @@ module _ (bytes : List ℕ) (rows : List EventRow) (names : List (List ℕ)) (de
         chosen true = refl
         chosen false = refl
 
-        stamped : is_stamp row.at ≡ true
-        stamped = (and_parts (is_stamp row.at) (has_spelling (event_of bytes row).input) row_spelled.form).0
+        stamped : is_stamp (event_of bytes row).at ≡ true
+        stamped = (and_parts (is_stamp (event_of bytes row).at) (has_spelling (event_of bytes row).input) row_spelled.form).0
 
-        same : bytes_eq (bytes_of bytes row) (spelling (record { at = row.at; input = i })) ≡ same_contents (event_of bytes row).input i
-        same = bytes_tell (bytes_of bytes row) row.at (event_of bytes row).input i row_spelled.form (in_form row.at i stamped form tokens) row_spelled.spelled
+        same : bytes_eq (bytes_of bytes row) (spelling (record { at = (event_of bytes row).at; input = i })) ≡ same_contents (event_of bytes row).input i
+        same = bytes_tell (bytes_of bytes row) (event_of bytes row).at (event_of bytes row).input i row_spelled.form (in_form (event_of bytes row).at i stamped form tokens) row_spelled.spelled
 
     -- ---- the event receives its verdict
 

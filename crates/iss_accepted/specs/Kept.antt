@@ -14,6 +14,7 @@ use Rattle.iss_model.specs.declared.input.Record.{Record}
 use Rattle.iss_model.specs.declared.state.Seen.{Seen}
 use Rattle.iss_model.specs.texts.Spelling.{spelling, is_record}
 use Rattle.iss_model.specs.rules.Facts.{Accepted, reply_of_verdict}
+use Rattle.iss_codec.specs.Taking.{◌>>=◌, take_byte, take_stamp}
 use Rattle.iss_codec.specs.TakingRecords.{record_spelled}
 use Rattle.iss_accepted.specs.declared.row.EventRow.{EventRow}
 use Rattle.iss_accepted.specs.Values.{EventsNow}
@@ -23,14 +24,18 @@ use Rattle.iss_accepted.specs.Standing.{Standing, IsNamed, name_of, decisions_at
 abbrev pub bytes_of : List ℕ → EventRow → List ℕ
 bytes_of bytes row = slice_range bytes row.start row.end
 
--- the input of a record that was read
-abbrev pub input_read : Option Record → Input
-input_read None = input.Time
-input_read (Some r) = r.input
+-- the record that was read, or one of no event
+abbrev pub record_read : Option Record → Record
+record_read None = record { at = 0; input = input.Time }
+record_read (Some r) = r
+
+-- the event of a record with this number
+abbrev pub event_by : ℕ → Record → Accepted
+event_by number r = record { number = number; at = r.at; input = r.input }
 
 -- the event of a row: its bytes are read
 abbrev pub event_of : List ℕ → EventRow → Accepted
-event_of bytes row = record { number = row.number; at = row.at; input = input_read (record_spelled (bytes_of bytes row)) }
+event_of bytes row = event_by row.number (record_read (record_spelled (bytes_of bytes row)))
 
 -- the record of an event
 abbrev pub record_of : Accepted → Record
@@ -44,6 +49,13 @@ standing_of bytes row = record { event = event_of bytes row; verdict = row.verdi
 abbrev pub standings_of : List ℕ → List EventRow → List Standing
 standings_of bytes rows = map (standing_of bytes) rows
 
+-- the stamp at the start of a record's bytes, after its kind
+abbrev pub stamp_taken : List ℕ → Option ℕ
+stamp_taken bytes = do
+  kind ← take_byte bytes
+  at ← take_stamp kind.1
+  Some at.0
+
 -- a row's bytes are the spelling of its event's record
 pub record IsSpelledIn (bytes : List ℕ) (row : EventRow) : Type 0 where
   pub begins : row.start ≤ row.end
@@ -52,10 +64,10 @@ pub record IsSpelledIn (bytes : List ℕ) (row : EventRow) : Type 0 where
   pub form : IsTrue (is_record (record_of (event_of bytes row)))
   pub named : IsNamed (standing_of bytes row)
 
--- The answer of an input by its token's row. If the row's bytes spell it, it is the reply again. Otherwise it is the number of the row's record.
+-- The answer of an input by its token's row. If the row's bytes spell it at the event's stamp, it is the reply again. Otherwise it is the number of the row's record.
 abbrev pub row_answer : List ℕ → EventRow → List ℕ → Input → Answer
 row_answer bytes row token i =
-    if bytes_eq (bytes_of bytes row) (spelling (record { at = row.at; input = i })) then answer.Repeat token (reply_of_verdict row.verdict)
+    if bytes_eq (bytes_of bytes row) (spelling (record { at = (event_of bytes row).at; input = i })) then answer.Repeat token (reply_of_verdict row.verdict)
     else answer.Conflict token row.number
 
 -- a row's event as it stands, with the mark of its call among these

@@ -140,11 +140,10 @@ impl Events {
         push(
             &mut self.rows,
             &ShortRow {
-                number,
-                length,
-                at,
                 start,
-                verdict: ShortVerdict::Open,
+                length,
+                number,
+                verdict: ShortVerdict { code: 0 },
             },
         )?;
         Ok(())

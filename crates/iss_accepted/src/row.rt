@@ -11,21 +11,19 @@ ghost use Rattle.iss_model.specs.Inputs.{event_token};
 ghost use Rattle.iss_model.specs.Tokens.{is_token};
 ghost use Rattle.iss_model.specs.rules.Facts.{reply_of_verdict};
 ghost use Rattle.iss_model.specs.texts.Spelling.{spelling, tokens_of};
-ghost use Rattle.iss_accepted.specs.Kept.{IsSpelledIn, row_answer, row_seen};
+ghost use Rattle.iss_accepted.specs.Kept.{IsSpelledIn, row_answer, row_seen, stamp_taken};
 ghost use Rattle.iss_accepted.specs.Short.{rows_of};
 
 use crate::short::ShortRow;
-use iss_codec::{decode, put_record};
+use iss_codec::{Reader, decode, put_record};
 use iss_model::{Answer, CallState, Input, Reply, Seen, Token, Verdict};
 use std::alloc::{AllocError, Global};
 use std::collections::BTreeMap;
 
-/// An accepted event: its record's number and stamp, where its record's bytes begin and end, and its verdict if it is
-/// decided.
+/// An accepted event: its record's number, where its record's bytes begin and end, and its verdict if it is decided.
 #[derive(Clone, Copy)]
 pub(crate) struct EventRow {
     pub(crate) number: u32,
-    pub(crate) at: u64,
     pub(crate) start: usize,
     pub(crate) end: usize,
     pub(crate) verdict: Option<Verdict>,
@@ -42,7 +40,7 @@ impl EventRow {
         }
     }
 
-    /// The answer of an input of this event's token, if the row's bytes lie in `bytes`.
+    /// The answer of an input of this event's token.
     pub(crate) fn answer(
         &self,
         alloc: Global,
@@ -50,12 +48,15 @@ impl EventRow {
         token: &Token,
         input: &Input,
     ) -> Result<Answer, AllocError>
-        requires begins { self.now.start ≤ self.now.end }
-        requires within { self.now.end ≤ length bytes.now }
+        requires { IsSpelledIn bytes.now self.now }
         ensures told { IfOk result (λ told. told ≡ row_answer bytes.now self.now token.now input.now) }
         ensures tokens { OnOk result (IsTrue (list_all is_token (tokens_of input.now))) }
     {
-        if is_spelling(alloc, &bytes[self.start..self.end], self.at, input)? {
+        let spelled = &bytes[self.start..self.end];
+        let Some(at) = stamp_of(spelled) else {
+            unreachable!()
+        };
+        if is_spelling(alloc, spelled, at, input)? {
             Ok(Answer::Repeat(*token, self.reply()))
         } else {
             Ok(Answer::Conflict(*token, self.number))
@@ -110,6 +111,15 @@ pub(crate) fn seen_rows(
         seen.push(row.whole(others).seen(alloc, bytes, marks)?)?;
     }
     Ok(seen)
+}
+
+/// The stamp at the start of a record's bytes, after its kind.
+fn stamp_of(spelled: &[u8]) -> Option<u64>
+    ensures { result ≡ stamp_taken spelled.now }
+{
+    let mut reader = Reader::new(spelled);
+    reader.take_byte()?;
+    reader.take_stamp()
 }
 
 /// Whether these bytes are the spelling of the record of that stamp and input.

@@ -1,27 +1,24 @@
 //! The row of an accepted event in few bytes.
 ghost use Rattle.std.specs.Prelude.{◌≡◌, ◌+◌, ◌<◌, ◌^◌, ◌++◌, IfOk, OnOk, OnErr, length};
-ghost use Rattle.iss_accepted.specs.Short.{other_of, row_of, short_of, verdict_of};
+ghost use Rattle.iss_accepted.specs.Short.{code_of, other_of, row_of, verdict_of};
 
 use crate::row::{EventRow, push};
 use iss_model::Verdict;
 use std::alloc::AllocError;
 
-/// A verdict, or that there is none yet. One other than the two that are frequent is told by its place in a list of those.
+/// A verdict, or that there is none yet, by a code: 0 is none, 1 is `Done`, 2 is `Approved`, and 3 + n is the verdict at
+/// place n in a list of the others.
 #[derive(Clone, Copy)]
-pub(crate) enum ShortVerdict {
-    Open,
-    Done,
-    Approved,
-    Other(u32),
+pub(crate) struct ShortVerdict {
+    pub(crate) code: u32,
 }
 
-/// An accepted event: its record's number and stamp, where its record's bytes begin, how many there are, and its verdict.
+/// An accepted event: where its record's bytes begin, how many there are, its record's number, and its verdict.
 #[derive(Clone, Copy)]
 pub(crate) struct ShortRow {
-    pub(crate) number: u32,
-    pub(crate) length: u32,
-    pub(crate) at: u64,
     pub(crate) start: usize,
+    pub(crate) length: u32,
+    pub(crate) number: u32,
     pub(crate) verdict: ShortVerdict,
 }
 
@@ -33,7 +30,6 @@ impl ShortRow {
     {
         EventRow {
             number: self.number,
-            at: self.at,
             start: self.start,
             end: self.start + self.length as usize,
             verdict: self.verdict.verdict(others),
@@ -44,39 +40,47 @@ impl ShortRow {
 impl ShortVerdict {
     /// The verdict, which is among these if it is neither of the frequent two.
     fn verdict(&self, others: &[Verdict]) -> Option<Verdict>
-        ensures { result ≡ verdict_of others.now self.now }
+        ensures { result ≡ verdict_of others.now self.now.code }
     {
-        match self {
-            ShortVerdict::Open => None,
-            ShortVerdict::Done => Some(Verdict::Done),
-            ShortVerdict::Approved => Some(Verdict::Approved),
-            ShortVerdict::Other(place) => others.get(*place as usize).copied(),
+        match self.code {
+            0 => None,
+            1 => Some(Verdict::Done),
+            2 => Some(Verdict::Approved),
+            code => others.get(code as usize - 3).copied(),
         }
     }
 }
 
 /// A verdict in few bytes. It is added to these if it is neither of the frequent two. If an allocation fails, they stay as
-/// they were, and so if there are 2^32 of them.
+/// they were, and so if 2^32 - 3 of them stand, as many as codes are kept for.
 pub(crate) fn shortened(
     others: &mut Vec<Verdict>,
     verdict: &Verdict,
 ) -> Result<ShortVerdict, AllocError>
-    ensures short { IfOk result (λ short. short ≡ short_of (length others.old.items) verdict.now) }
+    ensures short { IfOk result (λ short. short.code ≡ code_of (length others.old.items) verdict.now) }
     ensures added { OnOk result (others.new.items ≡ others.old.items ++ other_of verdict.now) }
     ensures refused { OnErr result (others.new.items ≡ others.old.items) }
 {
     match verdict {
-        Verdict::Done => Ok(ShortVerdict::Done),
-        Verdict::Approved => Ok(ShortVerdict::Approved),
+        Verdict::Done => Ok(ShortVerdict { code: 1 }),
+        Verdict::Approved => Ok(ShortVerdict { code: 2 }),
         Verdict::Partial(_, _) | Verdict::Declined(_) => {
-            let place = short_count(others.len())?;
+            let code = code_after(others.len())?;
             push(others, verdict)?;
-            Ok(ShortVerdict::Other(place))
+            Ok(ShortVerdict { code })
         }
     }
 }
 
-/// A count in 32 bits, or that there is no memory for so many.
+/// The code of a verdict that is added to this many other ones.
+fn code_after(count: usize) -> Result<u32, AllocError>
+    ensures { IfOk result (λ code. code ≡ count + 3) }
+{
+    let place = short_count(count)?;
+    place.checked_add(3).ok_or(AllocError)
+}
+
+/// A count in 32 bits, or an error if it takes more.
 pub(crate) fn short_count(count: usize) -> Result<u32, AllocError>
     ensures { IfOk result (λ short. short ≡ count) }
 {

@@ -1,13 +1,12 @@
 use Rattle.std.proofs.Common.{sym, subst, arith}
 use Rattle.iss_accepted.specs.declared.short.ShortRow.{ShortRow}
-use Rattle.iss_accepted.specs.declared.short.ShortVerdict.TheVariants as short
 use Rattle.iss_accepted.specs.Kept.{IsSpelledIn}
 use Rattle.iss_accepted.proofs.Shortened.{each_spelled}
 use Rattle.iss_accepted.proofs.row.seen_rows.Goals as goal
 
 -- a row with nothing
 abbrev nothing : ShortRow
-nothing = record { number = 0; length = 0; at = 0; start = 0; verdict = short.Open }
+nothing = record { number = 0; length = 0; start = 0; verdict = record { code = 0 } }
 
 pub whole-requires : goal.whole-requires
 whole-requires c =

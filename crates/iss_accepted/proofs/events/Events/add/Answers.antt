@@ -1,11 +1,11 @@
 use Rattle.std.proofs.Common.{◌≡◌, List, ℕ, ◌+◌, [], ◌∷◌, ◌++◌, ◌∙◌, length, ap, sym, refl, arith, length-append}
 use Rattle.std.specs.Prelude.{Result, Ok, Err, OnErr}
+use Rattle.iss_model.specs.declared.input.Record.{Record}
 use Rattle.iss_model.specs.texts.Spelling.{spelling}
 use Rattle.iss_accepted.specs.declared.short.ShortRow.{ShortRow}
-use Rattle.iss_accepted.specs.declared.short.ShortVerdict.TheVariants as short
-use Rattle.iss_accepted.specs.Short.{row_of, rows_of}
+use Rattle.iss_accepted.specs.Short.{rows_of}
 use Rattle.iss_accepted.proofs.Steps.{in_form, new_unplaced}
-use Rattle.iss_accepted.proofs.Added.{with_input}
+use Rattle.iss_accepted.proofs.Added.{with_record}
 use Rattle.iss_accepted.proofs.Changed.{ShowsShort, bytes_more, event_more}
 use Rattle.iss_accepted.proofs.events.Events.add.Goals as goal
 
@@ -35,11 +35,15 @@ returns-in_err-add-clause-refused c = stays c.from_residual-in_err-add.result (o
 
 -- the row that is added
 abbrev newest : goal.In_ok-push → ShortRow
-newest c = record { number = c.args.number; length = c.in_ok-length.length; at = c.args.at; start = c.len-start.result; verdict = short.Open }
+newest c = record { number = c.args.number; length = c.in_ok-length.length; start = c.len-start.result; verdict = record { code = 0 } }
 
 -- the record that is added
+abbrev record_now : goal.In_ok-push → Record
+record_now c = record { at = c.args.at; input = c.args.input.now }
+
+-- its bytes
 abbrev spelled_now : goal.In_ok-push → List ℕ
-spelled_now c = spelling (record { at = c.args.at; input = c.args.input.now })
+spelled_now c = spelling (record_now c)
 
 spelled_is : (c : goal.In_ok-push) → c.put_record.new.out.items ≡ spelled_now c
 spelled_is c = c.in_ok-put_record.ensures.spelled ∙ ap (λ (xs : List ℕ). xs ++ spelled_now c) c.clear.ensures.items
@@ -68,11 +72,11 @@ ends c =
 
 one_more : (c : goal.In_ok-push)
     → ShowsShort c.extend_from_slice.new.self.items c.self.inside.others.items c.push.new.things.items c.add.new.self c.self.inside.decided.items
-    (with_input c.args.self.now (row_of c.self.inside.others.items (newest c)) c.args.input.now)
+    (with_record c.args.self.now c.args.number (record_now c))
 one_more c =
     event_more c.self.inside.bytes.items c.self.inside.others.items c.self.inside.rows.items c.self.inside.names c.self.inside.decided.items c.args.self.now
     c.self.invariant c.self.view_is
-    c.extend_from_slice.new.self.items c.push.new.things.items c.add.new.self (newest c) c.args.input.now c.in-Some.token
+    c.extend_from_slice.new.self.items c.push.new.things.items c.add.new.self (newest c) (record_now c) c.in-Some.token
     (bytes_are c) (starts c) (ends c)
     (in_form c.args.at c.args.input.now c.requires.stamp c.requires.form c.in_ok-put_record.ensures.tokens)
     refl (sym c.in-Some.ensures) (c.requires.new c.in-Some.token (sym c.in-Some.ensures))

@@ -1,4 +1,4 @@
-use Rattle.std.proofs.Common.{◌<◌, List, length, sym, ap, ◌∙◌, arith}
+use Rattle.std.proofs.Common.{◌<◌, ℕ, List, length, sym, ap, subst, ◌∙◌, arith}
 use Rattle.iss_model.specs.declared.decision.Verdict.{Verdict}
 use Rattle.iss_accepted.specs.Kept.{IsSpelledIn}
 use Rattle.iss_accepted.specs.Short.{row_of, rows_of}
@@ -36,11 +36,8 @@ lies c =
     c.self.invariant c.self.view_is c.in-Some.token c.in-Some-find.place c.index.result.now c.in-Some-find.ensures.value c.index.ensures c.whole-row.result
     (c.whole-row.ensures ∙ ap (λ (vs : List Verdict). row_of vs c.index.result.now) c.deref.ensures.value))
 
-pub answer-requires-clause-begins : goal.answer-requires-clause-begins
-answer-requires-clause-begins c = (lies c).begins
-
-pub answer-requires-clause-within : goal.answer-requires-clause-within
-answer-requires-clause-within c = rw c.deref-2.ensures.value (lies c).within
+pub answer-requires : goal.answer-requires
+answer-requires c = subst (λ (bytes : List ℕ). IsSpelledIn bytes c.whole-row.result) (sym c.deref-2.ensures.value) (lies c)
 
 pub returns : goal.returns
 returns c =
