@@ -29,29 +29,6 @@ with_record value number r = record value { accepted = value.accepted ++ (cond (
 
 module _ (bytes : List ℕ) (rows : List EventRow) (names : List (List ℕ)) (decided : List ℕ) (value : EventsNow)
     (kept : IsKept bytes rows names decided) (view : events_now (standings_of bytes rows) decided ≡ value) where
-  -- ---- bytes are added, and no row
-
-  module _ (all more : List ℕ) (rows_now : List EventRow) (names_now : List (List ℕ)) (grown : all ≡ bytes ++ more) (same : rows_now ≡ rows) (unchanged : names_now ≡ names) where
-    standings_same : standings_of all rows_now ≡ standings_of bytes rows
-    standings_same = ap₂ (λ (bs : List ℕ) (rs : List EventRow). standings_of bs rs) grown same ∙ standings_stay bytes more rows kept.spelled
-
-    grown_kept : IsKept all rows_now names_now decided
-    grown_kept =
-        record {
-          spelled =
-              subst (λ (bs : List ℕ). AllByRecursion (IsSpelledIn bs) rows_now) (sym grown)
-              (subst (λ (rs : List EventRow). AllByRecursion (IsSpelledIn (bytes ++ more)) rs) (sym same) (all_stay bytes more rows kept.spelled));
-          placed = unchanged ∙ kept.placed ∙ ap (λ (ss : List Standing). map name_of ss) (sym standings_same);
-          apart = subst (IsDistinct bytes_eq) (sym unchanged) kept.apart;
-          verdicts = subst (λ (ss : List Standing). AreDecided ss decided) (sym standings_same) kept.verdicts;
-        }
-
-    grown_view : events_now (standings_of all rows_now) decided ≡ value
-    grown_view = ap (λ (ss : List Standing). events_now ss decided) standings_same ∙ view
-
-    pub grown_shows : Shows all rows_now names_now decided value
-    grown_shows = record { kept = grown_kept; view = grown_view }
-
   -- ---- an event is added
 
   module _ (all : List ℕ) (rows_now : List EventRow) (names_now : List (List ℕ)) (row : EventRow) (r : Record) (token : List ℕ)

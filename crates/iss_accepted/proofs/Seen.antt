@@ -1,5 +1,5 @@
 -- The rows as they stand are the events with their verdicts.
-use Rattle.std.proofs.Common.{◌≡◌, ℕ, cond, List, [], ◌∷◌, map, Option, Some, None, refl, sym, ap, ap₂, subst, ◌∙◌}
+use Rattle.std.proofs.Common.{◌≡◌, ℕ, zero, suc, ◌+◌, ◌≤◌, cond, List, [], ◌∷◌, ◌++◌, length, drop, slice_get, map, Option, Some, None, refl, sym, ap, ap₂, subst, ◌∙◌, arith, append_assoc}
 use Rattle.std.specs.Prelude.{option_map, unwrap_or}
 use Rattle.std.specs.BTreeMap.{BTreeMap, get}
 use Rattle.std.specs.Cmp.Lexicographic.{slice_cmp}
@@ -7,6 +7,8 @@ use Rattle.std.specs.List.{AllByRecursion, IsDistinct}
 use Rattle.std.specs.Option.{option_and_then}
 use Rattle.std.specs.Ordering.{nat_cmp}
 use Rattle.std.specs.Str.{bytes_eq}
+use Rattle.std.proofs.lemmas.List.{append-nil, drop_all}
+use Rattle.std.proofs.lemmas.Option.{same_Some}
 use Rattle.iss_model.specs.declared.call.CallState.{CallState}
 use Rattle.iss_model.specs.declared.decision.Verdict.{Verdict}
 use Rattle.iss_model.specs.declared.state.Seen.{Seen}
@@ -71,3 +73,28 @@ rows_seen bytes rows names decided value marks seen kept view is =
     is
     ∙ rows_are bytes decided marks (standings_of bytes rows) kept.verdicts rows (all_first (standings_of bytes rows) (subst (IsDistinct bytes_eq) kept.placed kept.apart))
     ∙ ap (λ (e : EventsNow). map (seen_among e marks) e.accepted) view
+
+-- what is left from a place on begins with what stands there
+rest_at : (rows : List EventRow) (place : ℕ) (row : EventRow) → slice_get rows place ≡ Some row → drop place rows ≡ row ∷ drop (suc place) rows
+rest_at [] place row here = cc
+rest_at (r ∷ rows) zero row here = ap (λ (x : EventRow). x ∷ rows) (same_Some r row here)
+rest_at (r ∷ rows) (suc place) row here = rest_at rows place row here
+
+-- the rows are told one after the other
+module _ (bytes : List ℕ) (marks : BTreeMap (List ℕ) CallState) (rows : List EventRow) (place : ℕ) (seen : List Seen)
+    (told : seen ++ map (row_seen bytes marks) (drop place rows) ≡ map (row_seen bytes marks) rows) where
+  pub one_seen : (row : EventRow) (s : Seen) (now : List Seen) → slice_get rows place ≡ Some row → s ≡ row_seen bytes marks row → now ≡ seen ++ s ∷ []
+      → now ++ map (row_seen bytes marks) (drop (place + 1) rows) ≡ map (row_seen bytes marks) rows
+  one_seen row s now here is pushed =
+      let next : place + 1 ≡ suc place = omega arith in
+      ap₂ (λ (ss : List Seen) (n : ℕ). ss ++ map (row_seen bytes marks) (drop n rows)) pushed next
+      ∙ append_assoc seen (s ∷ []) (map (row_seen bytes marks) (drop (suc place) rows))
+      ∙ ap (λ (x : Seen). seen ++ (x ∷ map (row_seen bytes marks) (drop (suc place) rows))) is
+      ∙ ap (λ (rs : List EventRow). seen ++ map (row_seen bytes marks) rs) (sym (rest_at rows place row here))
+      ∙ told
+
+  pub all_seen : length rows ≤ place → seen ≡ map (row_seen bytes marks) rows
+  all_seen past =
+      sym (append-nil seen)
+      ∙ ap (λ (rs : List EventRow). seen ++ map (row_seen bytes marks) rs) (sym (drop_all place rows past))
+      ∙ told

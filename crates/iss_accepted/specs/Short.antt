@@ -1,5 +1,5 @@
 -- How rows are kept in few bytes.
-use Rattle.std.specs.Prelude.{◌+◌, ◌-◌, ◌<◌, ◌==◌, if◌then◌else◌, ℕ, List, [], ◌∷◌, map, length, Option, Some, None}
+use Rattle.std.specs.Prelude.{◌+◌, ◌-◌, ◌<◌, ◌==◌, if◌then◌else◌, ℕ, List, [], ◌∷◌, length, Option, Some, None}
 use Rattle.std.specs.List.{AllByRecursion, slice_get}
 use Rattle.iss_model.specs.declared.decision.Verdict.{Verdict}
 use Rattle.iss_model.specs.declared.decision.Verdict.TheVariants as verdict
@@ -29,19 +29,25 @@ other_of verdict.Approved = []
 other_of (verdict.Partial currency amount) = verdict.Partial currency amount ∷ []
 other_of (verdict.Declined reason) = verdict.Declined reason ∷ []
 
--- the whole row
-abbrev pub row_of : List Verdict → ShortRow → EventRow
-row_of others row =
+-- where the first of these rows begins, or the size of the buffer if there is none
+abbrev pub next_start : ℕ → List ShortRow → ℕ
+next_start size [] = size
+next_start size (row ∷ rows) = row.start
+
+-- the whole row, whose bytes end there
+abbrev pub row_of : List Verdict → ℕ → ShortRow → EventRow
+row_of others end row =
     record {
       number = row.number;
       start = row.start;
-      end = row.start + row.length;
+      end = end;
       verdict = verdict_of others row.verdict.code;
     }
 
--- the whole rows
-abbrev pub rows_of : List Verdict → List ShortRow → List EventRow
-rows_of others rows = map (row_of others) rows
+-- The whole rows over a buffer of this size. Each row's bytes end where those of the next begin, and the last one's at the buffer's end.
+abbrev pub rows_of : List Verdict → ℕ → List ShortRow → List EventRow
+rows_of others size [] = []
+rows_of others size (row ∷ rows) = row_of others (next_start size rows) row ∷ rows_of others size rows
 
 -- the place of a code, if it has one, is below this count
 abbrev pub IsWithin : ℕ → ℕ → Type 0
@@ -49,5 +55,5 @@ IsWithin count code = code < count + 3
 
 -- The whole rows are kept as they should be, and each verdict that has a place stands there.
 pub record IsKeptShort (bytes : List ℕ) (others : List Verdict) (rows : List ShortRow) (names : List (List ℕ)) (decided : List ℕ) : Type 0 where
-  pub kept : IsKept bytes (rows_of others rows) names decided
+  pub kept : IsKept bytes (rows_of others (length bytes) rows) names decided
   pub within : AllByRecursion (λ row. IsWithin (length others) row.verdict.code) rows

@@ -7,7 +7,7 @@ ghost use Rattle.iss_model.specs.rules.Facts.{event_reply};
 ghost use Rattle.iss_accepted.specs.Values.{IsUnknown, no_events, events_facts, answer_in, seen_among, with_decision, with_input};
 
 use crate::row::{push, seen_rows};
-use crate::short::{ShortRow, ShortVerdict, short_count, shortened};
+use crate::short::{ShortRow, ShortVerdict, shortened, whole_row};
 use iss_codec::put_record;
 use iss_index::Names;
 use iss_model::{Answer, CallState, Input, Reply, Seen, Token, Verdict};
@@ -22,7 +22,7 @@ use std::marker::Model;
 #[derive(Drop)]
 pub struct Events {
     rows: Vec<ShortRow>,
-    // The verdicts that a row tells by their place here.
+    // The verdicts that a row's code tells by their place here.
     others: Vec<Verdict>,
     bytes: Vec<u8>,
     names: Names,
@@ -35,10 +35,11 @@ impl Model for Events {
 
     ghost Value = { EventsNow };
 
+    ghost use Rattle.std.specs.Prelude.{length};
     ghost use Rattle.iss_accepted.specs.Kept.{events_now, standings_of};
     ghost use Rattle.iss_accepted.specs.Short.{rows_of, IsKeptShort};
 
-    ghost view = { λ e. events_now (standings_of e.bytes.items (rows_of e.others.items e.rows.items)) e.decided.items };
+    ghost view = { λ e. events_now (standings_of e.bytes.items (rows_of e.others.items (length e.bytes.items) e.rows.items)) e.decided.items };
 
     ghost invariant = { λ e. IsKeptShort e.bytes.items e.others.items e.rows.items e.names e.decided.items };
 }
@@ -83,10 +84,11 @@ impl Events {
     pub fn reply(&self, event: &Token) -> Option<Reply>
         ensures { result ≡ event_reply (events_facts self.now) event.now }
     {
-        match self.names.find(event) {
-            Some(place) => Some(self.rows[place as usize].whole(&self.others).reply()),
-            None => None,
-        }
+        let Some(place) = self.names.find(event) else {
+            return None;
+        };
+        let row = whole_row(&self.rows, place as usize, &self.others, self.bytes.len());
+        Some(row.reply())
     }
 
     /// The answer of an input if it is an event that stands. If all its fields are the same, it is the reply again.
@@ -101,7 +103,7 @@ impl Events {
         let Some(place) = self.names.find(&token) else {
             return Ok(None);
         };
-        let row = self.rows[place as usize].whole(&self.others);
+        let row = whole_row(&self.rows, place as usize, &self.others, self.bytes.len());
         let told = row.answer(alloc, &self.bytes, &token, input)?;
         Ok(Some(told))
     }
@@ -118,7 +120,7 @@ impl Events {
     }
 
     /// Adds the input of a record, if it is an event. If an allocation fails, all stays as it was, and so if
-    /// 2^32 - 1 events stand, as many as places are kept for, or if the record's spelling takes 2^32 bytes.
+    /// 2^32 - 1 events stand, as many as places are kept for.
     #[inline(always)]
     pub fn add(&mut self, number: u32, at: u64, input: &Input) -> Result<(), AllocError>
         requires form { IsTrue (is_in_form input.now) }
@@ -132,24 +134,24 @@ impl Events {
         };
         self.spelled.clear();
         put_record(&mut self.spelled, at, input)?;
-        let length = short_count(self.spelled.len())?;
         self.rows.reserve(1)?;
+        self.bytes.reserve(self.spelled.len())?;
+        self.names.add(&token)?;
         let start = self.bytes.len();
         self.bytes.extend_from_slice(&self.spelled)?;
-        self.names.add(&token)?;
         push(
             &mut self.rows,
             &ShortRow {
                 start,
-                length,
                 number,
-                verdict: ShortVerdict { code: 0 },
+                verdict: ShortVerdict::undecided(),
             },
         )?;
         Ok(())
     }
 
-    /// Notes how an accepted event is decided. If an allocation fails, all stays as it was.
+    /// Notes how an accepted event is decided. If an allocation fails, all stays as it was, and so if 2^32 - 3 verdicts other
+    /// than the two that are frequent stand, as many as codes are kept for.
     pub fn decide(&mut self, event: &Token, verdict: Verdict) -> Result<(), AllocError>
         requires accepted { IsSome (find (λ a. is_event event.now a.input) self.old.accepted) }
         requires undecided { find (λ d. bytes_eq d.event event.now) self.old.decisions ≡ None }

@@ -14,7 +14,7 @@ ghost use Rattle.iss_model.specs.texts.Spelling.{spelling, tokens_of};
 ghost use Rattle.iss_accepted.specs.Kept.{IsSpelledIn, row_answer, row_seen, stamp_taken};
 ghost use Rattle.iss_accepted.specs.Short.{rows_of};
 
-use crate::short::ShortRow;
+use crate::short::{ShortRow, whole_row};
 use iss_codec::{Reader, decode, put_record};
 use iss_model::{Answer, CallState, Input, Reply, Seen, Token, Verdict};
 use std::alloc::{AllocError, Global};
@@ -102,13 +102,13 @@ pub(crate) fn seen_rows(
     bytes: &[u8],
     marks: &BTreeMap<Token, CallState>,
 ) -> Result<Vec<Seen>, AllocError>
-    requires few { length bytes.now < 2 ^ 64 }
-    requires spelled { AllByRecursion (IsSpelledIn bytes.now) (rows_of others.now rows.now) }
-    ensures { IfOk result (λ v. v.items ≡ map (row_seen bytes.now marks.now) (rows_of others.now rows.now)) }
+    requires { AllByRecursion (IsSpelledIn bytes.now) (rows_of others.now (length bytes.now) rows.now) }
+    ensures { IfOk result (λ v. v.items ≡ map (row_seen bytes.now marks.now) (rows_of others.now (length bytes.now) rows.now)) }
 {
     let mut seen = Vec::new(alloc);
-    for row in rows {
-        seen.push(row.whole(others).seen(alloc, bytes, marks)?)?;
+    for place in 0..rows.len() {
+        let row = whole_row(rows, place, others, bytes.len());
+        seen.push(row.seen(alloc, bytes, marks)?)?;
     }
     Ok(seen)
 }

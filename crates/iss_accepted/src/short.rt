@@ -1,6 +1,7 @@
 //! The row of an accepted event in few bytes.
-ghost use Rattle.std.specs.Prelude.{◌≡◌, ◌+◌, ◌<◌, ◌^◌, ◌++◌, IfOk, OnOk, OnErr, length};
-ghost use Rattle.iss_accepted.specs.Short.{code_of, other_of, row_of, verdict_of};
+ghost use Rattle.std.specs.Prelude.{◌≡◌, ◌+◌, ◌<◌, ◌++◌, IfOk, OnOk, OnErr, Some, length};
+ghost use Rattle.std.specs.List.{slice_get};
+ghost use Rattle.iss_accepted.specs.Short.{code_of, next_start, other_of, rows_of, verdict_of};
 
 use crate::row::{EventRow, push};
 use iss_model::Verdict;
@@ -13,31 +14,53 @@ pub(crate) struct ShortVerdict {
     pub(crate) code: u32,
 }
 
-/// An accepted event: where its record's bytes begin, how many there are, its record's number, and its verdict.
+/// An accepted event: where its record's bytes begin, its record's number, and its verdict. Its bytes end where those of the
+/// next row begin, or at the buffer's end.
 #[derive(Clone, Copy)]
 pub(crate) struct ShortRow {
     pub(crate) start: usize,
-    pub(crate) length: u32,
     pub(crate) number: u32,
     pub(crate) verdict: ShortVerdict,
 }
 
-impl ShortRow {
-    /// The row with its verdict, which is among these if it is neither of the frequent two.
-    pub(crate) fn whole(&self, others: &[Verdict]) -> EventRow
-        requires { self.now.start + self.now.length < 2 ^ 64 }
-        ensures { result ≡ row_of others.now self.now }
-    {
-        EventRow {
-            number: self.number,
-            start: self.start,
-            end: self.start + self.length as usize,
-            verdict: self.verdict.verdict(others),
-        }
+/// The row at a place among all rows of a buffer of this size. Its verdict is among `others` if it is neither of the frequent
+/// two.
+pub(crate) fn whole_row(
+    rows: &[ShortRow],
+    place: usize,
+    others: &[Verdict],
+    size: usize,
+) -> EventRow
+    requires { place < length rows.now }
+    ensures { slice_get (rows_of others.now size rows.now) place ≡ Some result }
+{
+    let row = &rows[place];
+    EventRow {
+        number: row.number,
+        start: row.start,
+        end: next_start(&rows[place + 1..], size),
+        verdict: row.verdict.verdict(others),
+    }
+}
+
+/// Where the first of these rows begins, or the size of the buffer if there is none.
+fn next_start(rows: &[ShortRow], size: usize) -> usize
+    ensures { result ≡ next_start size rows.now }
+{
+    match rows.first() {
+        Some(row) => row.start,
+        None => size,
     }
 }
 
 impl ShortVerdict {
+    /// No verdict yet.
+    pub(crate) fn undecided() -> ShortVerdict
+        ensures { result.code ≡ 0 }
+    {
+        ShortVerdict { code: 0 }
+    }
+
     /// The verdict, which is among these if it is neither of the frequent two.
     fn verdict(&self, others: &[Verdict]) -> Option<Verdict>
         ensures { result ≡ verdict_of others.now self.now.code }
@@ -76,13 +99,6 @@ pub(crate) fn shortened(
 fn code_after(count: usize) -> Result<u32, AllocError>
     ensures { IfOk result (λ code. code ≡ count + 3) }
 {
-    let place = short_count(count)?;
+    let place = u32::try_from(count).map_err(|_| AllocError)?;
     place.checked_add(3).ok_or(AllocError)
-}
-
-/// A count in 32 bits, or an error if it takes more.
-pub(crate) fn short_count(count: usize) -> Result<u32, AllocError>
-    ensures { IfOk result (λ short. short ≡ count) }
-{
-    u32::try_from(count).map_err(|_| AllocError)
 }

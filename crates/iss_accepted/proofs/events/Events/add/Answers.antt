@@ -1,4 +1,4 @@
-use Rattle.std.proofs.Common.{◌≡◌, List, ℕ, ◌+◌, [], ◌∷◌, ◌++◌, ◌∙◌, length, ap, sym, refl, arith, length-append}
+use Rattle.std.proofs.Common.{◌≡◌, List, ℕ, ◌+◌, [], ◌∷◌, ◌++◌, ◌∙◌, length, ap, ap₂, sym, refl, arith, length-append}
 use Rattle.std.specs.Prelude.{Result, Ok, Err, OnErr}
 use Rattle.iss_model.specs.declared.input.Record.{Record}
 use Rattle.iss_model.specs.texts.Spelling.{spelling}
@@ -6,36 +6,17 @@ use Rattle.iss_accepted.specs.declared.short.ShortRow.{ShortRow}
 use Rattle.iss_accepted.specs.Short.{rows_of}
 use Rattle.iss_accepted.proofs.Steps.{in_form, new_unplaced}
 use Rattle.iss_accepted.proofs.Added.{with_record}
-use Rattle.iss_accepted.proofs.Changed.{ShowsShort, bytes_more, event_more}
+use Rattle.iss_accepted.proofs.Changed.{ShowsShort, event_more}
 use Rattle.iss_accepted.proofs.events.Events.add.Goals as goal
-
--- what holds anyway holds if a call fails
-stays : {T E P : Type 0} (r : Result T E) → P → OnErr r P
-stays (Ok x) p = tt
-stays (Err e) p = p
 
 pub add-requires : goal.add-requires
 add-requires c =
-    new_unplaced c.self.inside.bytes.items (rows_of c.self.inside.others.items c.self.inside.rows.items) c.self.inside.names c.self.inside.decided.items c.args.self.now c.in-Some.token
+    new_unplaced c.self.inside.bytes.items (rows_of c.self.inside.others.items (length c.self.inside.bytes.items) c.self.inside.rows.items) c.self.inside.names c.self.inside.decided.items c.args.self.now c.in-Some.token
     c.self.invariant.kept c.self.view_is (c.requires.new c.in-Some.token (sym c.in-Some.ensures))
-
--- if the name isn't taken up, only bytes were added
-only_bytes : (c : goal.After-from_residual-in_err-add)
-    → ShowsShort c.extend_from_slice.new.self.items c.self.inside.others.items c.reserve.new.self.items c.add.new.self c.self.inside.decided.items c.args.self.now
-only_bytes c =
-    bytes_more c.self.inside.bytes.items c.self.inside.others.items c.self.inside.rows.items c.self.inside.names c.self.inside.decided.items c.args.self.now
-    c.self.invariant c.self.view_is c.extend_from_slice.new.self.items c.deref.result.now c.reserve.new.self.items c.add.new.self
-    c.in_ok-extend_from_slice.ensures.items c.in_ok-reserve.ensures.items c.in_err-add.ensures.refused
-
-pub invariant_of-self-in_err-add : goal.invariant_of-self-in_err-add
-invariant_of-self-in_err-add c = (only_bytes c).kept
-
-pub returns-in_err-add-clause-refused : goal.returns-in_err-add-clause-refused
-returns-in_err-add-clause-refused c = stays c.from_residual-in_err-add.result (only_bytes c).view
 
 -- the row that is added
 abbrev newest : goal.In_ok-push → ShortRow
-newest c = record { number = c.args.number; length = c.in_ok-length.length; start = c.len-start.result; verdict = record { code = 0 } }
+newest c = record { number = c.args.number; start = c.len-start.result; verdict = c.undecided.result }
 
 -- the record that is added
 abbrev record_now : goal.In_ok-push → Record
@@ -51,24 +32,10 @@ spelled_is c = c.in_ok-put_record.ensures.spelled ∙ ap (λ (xs : List ℕ). xs
 bytes_are : (c : goal.In_ok-push) → c.extend_from_slice.new.self.items ≡ c.self.inside.bytes.items ++ spelled_now c
 bytes_are c =
     c.in_ok-extend_from_slice.ensures.items
-    ∙ ap (λ (xs : List ℕ). c.self.inside.bytes.items ++ xs) (c.deref.ensures.value ∙ spelled_is c)
+    ∙ ap₂ (λ (xs ys : List ℕ). xs ++ ys) c.in_ok-reserve-2.ensures.items (c.deref.ensures.value ∙ spelled_is c)
 
 starts : (c : goal.In_ok-push) → c.len-start.result ≡ length c.self.inside.bytes.items
 starts c = omega (arith, c.len-start.ensures, c.self.inside.bytes.ok.0)
-
-ends : (c : goal.In_ok-push) → c.len-start.result + c.in_ok-length.length ≡ length c.extend_from_slice.new.self.items
-ends c =
-    omega (
-      arith,
-      starts c,
-      c.in_ok-length.ensures,
-      c.len.ensures,
-      c.put_record.new.out.ok.0,
-      c.deref.ensures.len,
-      length-append c.self.inside.bytes.items c.deref.result.now,
-      ap (λ (xs : List ℕ). length xs) c.in_ok-extend_from_slice.ensures.items,
-      ap (λ (xs : List ℕ). length xs) c.deref.ensures.value,
-    )
 
 one_more : (c : goal.In_ok-push)
     → ShowsShort c.extend_from_slice.new.self.items c.self.inside.others.items c.push.new.things.items c.add.new.self c.self.inside.decided.items
@@ -77,9 +44,9 @@ one_more c =
     event_more c.self.inside.bytes.items c.self.inside.others.items c.self.inside.rows.items c.self.inside.names c.self.inside.decided.items c.args.self.now
     c.self.invariant c.self.view_is
     c.extend_from_slice.new.self.items c.push.new.things.items c.add.new.self (newest c) (record_now c) c.in-Some.token
-    (bytes_are c) (starts c) (ends c)
+    (bytes_are c) (starts c)
     (in_form c.args.at c.args.input.now c.requires.stamp c.requires.form c.in_ok-put_record.ensures.tokens)
-    refl (sym c.in-Some.ensures) (c.requires.new c.in-Some.token (sym c.in-Some.ensures))
+    c.undecided.ensures (sym c.in-Some.ensures) (c.requires.new c.in-Some.token (sym c.in-Some.ensures))
     c.in_ok-add.ensures.added
     (c.in_ok-push.ensures.pushed ∙ ap (λ (xs : List ShortRow). xs ++ newest c ∷ []) c.in_ok-reserve.ensures.items)
 

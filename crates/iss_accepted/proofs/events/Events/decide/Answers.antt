@@ -2,23 +2,21 @@ use Rattle.std.proofs.Common.{◌<◌, ℕ, List, length, set, refl, sym, subst,
 use Rattle.std.specs.Prelude.{Result, Ok, Err, OnErr}
 use Rattle.iss_accepted.specs.Values.{with_decision}
 use Rattle.iss_accepted.specs.Short.{other_of, rows_of}
-use Rattle.iss_accepted.proofs.Steps.{placed_within, none_accepted}
-use Rattle.iss_accepted.proofs.Shortened.{short_below}
-use Rattle.iss_accepted.proofs.Changed.{ShowsShort, verdicts_more, verdict_more}
+use Rattle.iss_accepted.proofs.Steps.{none_accepted}
+use Rattle.iss_accepted.proofs.Changed.{ShowsShort, verdicts_more, place_below, verdict_more}
 use Rattle.iss_accepted.proofs.events.Events.decide.Goals as goal
 
 pub returns-in_default-clause-decided : goal.returns-in_default-clause-decided
 returns-in_default-clause-decided c =
     absurd
-    (none_accepted c.self.inside.bytes.items (rows_of c.self.inside.others.items c.self.inside.rows.items) c.self.inside.names c.self.inside.decided.items
+    (none_accepted c.self.inside.bytes.items (rows_of c.self.inside.others.items (length c.self.inside.bytes.items) c.self.inside.rows.items) c.self.inside.names c.self.inside.decided.items
     c.args.self.now c.args.event.now c.self.invariant.kept c.self.view_is c.in_default.ensures.value c.requires.accepted)
 
 pub index_mut-requires : goal.index_mut-requires
 index_mut-requires c =
     let below : c.in-Some.place < length c.self.inside.rows.items =
-    short_below c.self.inside.others.items c.self.inside.rows.items c.in-Some.place
-    (placed_within c.self.inside.bytes.items (rows_of c.self.inside.others.items c.self.inside.rows.items) c.self.inside.names c.self.inside.decided.items
-    c.args.self.now c.args.event.now c.self.invariant.kept c.self.view_is c.in-Some.place c.in-Some.ensures.value)
+    place_below c.self.inside.bytes.items c.self.inside.others.items c.self.inside.rows.items c.self.inside.names c.self.inside.decided.items
+    c.args.self.now c.self.invariant c.self.view_is c.args.event.now c.in-Some.place c.in-Some.ensures.value
     in omega (arith, below, c.self.inside.rows.ok.0)
 
 -- what holds anyway holds if a call fails
@@ -50,7 +48,7 @@ noted : (c : goal.After-self-1)
     (with_decision c.args.self.now c.args.event.now c.args.verdict)
 noted c =
     verdict_more c.self.inside.bytes.items c.self.inside.others.items c.self.inside.rows.items c.self.inside.names c.self.inside.decided.items c.args.self.now
-    c.self.invariant c.self.view_is c.args.event.now c.in-Some.place c.index_mut.result.now c.in-Some.ensures.value c.index_mut.ensures.value
+    c.self.invariant c.self.view_is c.args.event.now c.in-Some.place c.in-Some.ensures.value c.index_mut.result.now c.index_mut.ensures.value
     c.args.verdict c.requires.undecided c.shortened.new.others.items _ c.push.new.self.items c.in_ok-verdict.verdict
     c.in_ok-verdict.ensures.short c.in_ok-verdict.ensures.added refl c.in_ok-push.ensures.items
 

@@ -1,36 +1,26 @@
-use Rattle.std.proofs.Common.{◌<◌, List, length, ap, ◌∙◌, arith}
-use Rattle.iss_model.specs.declared.decision.Verdict.{Verdict}
-use Rattle.iss_accepted.specs.Short.{row_of, rows_of}
-use Rattle.iss_accepted.proofs.Steps.{placed_within, found_replied, none_replied}
-use Rattle.iss_accepted.proofs.Shortened.{short_below}
-use Rattle.iss_accepted.proofs.Changed.{row_found, row_fits}
+use Rattle.std.proofs.Common.{◌≡◌, ◌<◌, length, arith}
+use Rattle.iss_accepted.specs.Short.{rows_of}
+use Rattle.iss_accepted.proofs.Steps.{found_replied, none_replied}
+use Rattle.iss_accepted.proofs.Changed.{place_below, row_found}
 use Rattle.iss_accepted.proofs.events.Events.reply.Goals as goal
 
-pub index-requires : goal.index-requires
-index-requires c =
+pub whole_row-row-requires : goal.whole_row-row-requires
+whole_row-row-requires c =
     let below : c.in-Some.place < length c.self.inside.rows.items =
-    short_below c.self.inside.others.items c.self.inside.rows.items c.in-Some.place
-    (placed_within c.self.inside.bytes.items (rows_of c.self.inside.others.items c.self.inside.rows.items) c.self.inside.names c.self.inside.decided.items
-    c.args.self.now c.args.event.now c.self.invariant.kept c.self.view_is c.in-Some.place c.in-Some.ensures.value)
-    in omega (arith, below, c.self.inside.rows.ok.0)
+    place_below c.self.inside.bytes.items c.self.inside.others.items c.self.inside.rows.items c.self.inside.names c.self.inside.decided.items
+    c.args.self.now c.self.invariant c.self.view_is c.args.event.now c.in-Some.place c.in-Some.ensures.value
+    in omega (arith, below)
 
-pub whole-requires : goal.whole-requires
-whole-requires c =
-    let fits =
-    row_fits c.self.inside.bytes.items c.self.inside.others.items c.self.inside.rows.items c.self.inside.names c.self.inside.decided.items c.args.self.now
-    c.self.invariant c.self.view_is c.args.event.now c.in-Some.place c.index.result.now c.in-Some.ensures.value c.index.ensures
-    in omega (arith, fits, c.self.inside.bytes.ok.0)
-
-pub returns-in-Some : goal.returns-in-Some
-returns-in-Some c =
-    found_replied c.self.inside.bytes.items (rows_of c.self.inside.others.items c.self.inside.rows.items) c.self.inside.names c.self.inside.decided.items
-    c.args.self.now c.args.event.now c.self.invariant.kept c.self.view_is c.in-Some.place c.whole.result c.in-Some.ensures.value
-    (row_found c.self.inside.bytes.items c.self.inside.others.items c.self.inside.rows.items c.self.inside.names c.self.inside.decided.items c.args.self.now
-    c.self.invariant c.self.view_is c.args.event.now c.in-Some.place c.index.result.now c.in-Some.ensures.value c.index.ensures c.whole.result
-    (c.whole.ensures ∙ ap (λ (vs : List Verdict). row_of vs c.index.result.now) c.deref.ensures.value))
+pub returns : goal.returns
+returns c =
+    found_replied c.self.inside.bytes.items (rows_of c.self.inside.others.items (length c.self.inside.bytes.items) c.self.inside.rows.items) c.self.inside.names c.self.inside.decided.items
+    c.args.self.now c.args.event.now c.self.invariant.kept c.self.view_is c.in-Some.place c.whole_row-row.result c.in-Some.ensures.value
+    (row_found c.self.inside.bytes.items c.self.inside.others.items c.self.inside.rows.items c.self.inside.names c.self.inside.decided.items
+    c.args.self.now c.self.invariant c.self.view_is c.in-Some.place c.whole_row-row.result c.deref-2.result.now c.len.result c.deref.result.now c.whole_row-row.ensures
+    c.deref-2.ensures.value (omega (arith, c.len.ensures, c.self.inside.bytes.ok.0)) c.deref.ensures.value)
     c.reply.result c.reply.ensures
 
-pub returns-in-None : goal.returns-in-None
-returns-in-None c =
-    none_replied c.self.inside.bytes.items (rows_of c.self.inside.others.items c.self.inside.rows.items) c.self.inside.names c.self.inside.decided.items
-    c.args.self.now c.args.event.now c.self.invariant.kept c.self.view_is c.in-None.ensures.value
+pub returns-in_default : goal.returns-in_default
+returns-in_default c =
+    none_replied c.self.inside.bytes.items (rows_of c.self.inside.others.items (length c.self.inside.bytes.items) c.self.inside.rows.items) c.self.inside.names c.self.inside.decided.items
+    c.args.self.now c.args.event.now c.self.invariant.kept c.self.view_is c.in_default.ensures.value

@@ -1,6 +1,7 @@
-use Rattle.std.proofs.Common.{List, ℕ, ap₂, map, ◌∙◌}
+use Rattle.std.proofs.Common.{◌≡◌, List, ℕ, length, ap, ap₂, map, ◌∙◌}
 use Rattle.std.proofs.lemmas.Result.{IfOk-weaker}
-use Rattle.iss_accepted.specs.declared.row.EventRow.{EventRow}
+use Rattle.iss_model.specs.declared.decision.Verdict.{Verdict}
+use Rattle.iss_accepted.specs.declared.short.ShortRow.{ShortRow}
 use Rattle.iss_accepted.specs.Kept.{row_seen}
 use Rattle.iss_accepted.specs.Short.{rows_of}
 use Rattle.iss_accepted.proofs.Seen.{rows_seen}
@@ -10,9 +11,14 @@ pub returns : goal.returns
 returns c =
     IfOk-weaker c.seen_rows.result _ _
     (λ v is.
-    rows_seen c.self.inside.bytes.items (rows_of c.self.inside.others.items c.self.inside.rows.items) c.self.inside.names c.self.inside.decided.items
+    rows_seen c.self.inside.bytes.items (rows_of c.self.inside.others.items (length c.self.inside.bytes.items) c.self.inside.rows.items) c.self.inside.names c.self.inside.decided.items
     c.args.self.now c.args.marks.now v.items c.self.invariant.kept c.self.view_is
-    (is
-    ∙ ap₂ (λ (bytes : List ℕ) (rows : List EventRow). map (row_seen bytes c.args.marks.now) rows) c.deref-3.ensures.value
-    (ap₂ rows_of c.deref-2.ensures.value c.deref.ensures.value)))
+    (is ∙ seen_of))
     c.seen_rows.ensures
+  where
+    seen_of : map (row_seen c.deref-3.result.now c.args.marks.now) (rows_of c.deref-2.result.now (length c.deref-3.result.now) c.deref.result.now)
+        ≡ map (row_seen c.self.inside.bytes.items c.args.marks.now) (rows_of c.self.inside.others.items (length c.self.inside.bytes.items) c.self.inside.rows.items)
+    seen_of =
+        ap (λ (bytes : List ℕ). map (row_seen bytes c.args.marks.now) (rows_of c.deref-2.result.now (length bytes) c.deref.result.now)) c.deref-3.ensures.value
+        ∙ ap₂ (λ (vs : List Verdict) (rs : List ShortRow). map (row_seen c.self.inside.bytes.items c.args.marks.now) (rows_of vs (length c.self.inside.bytes.items) rs))
+        c.deref-2.ensures.value c.deref.ensures.value
