@@ -13,7 +13,7 @@ use Rattle.iss_accepted.specs.declared.short.ShortVerdict.{ShortVerdict}
 use Rattle.iss_accepted.specs.Values.{EventsNow, with_decision}
 use Rattle.iss_accepted.specs.Standing.{decision_named}
 use Rattle.iss_accepted.specs.Kept.{standings_of, events_now, IsKept}
-use Rattle.iss_accepted.specs.Short.{verdict_of, code_of, other_of, row_of, rows_of, IsWithin, IsKeptShort}
+use Rattle.iss_accepted.specs.Short.{verdict_of, code_of, other_of, row_of, rows_of, standings_in, IsWithin, IsKeptShort}
 use Rattle.iss_accepted.proofs.Spans.{all_last}
 use Rattle.iss_accepted.proofs.Steps.{kept_none, placed_within, decided_kept, decided_view}
 use Rattle.iss_accepted.proofs.Added.{with_record, added_shows}
@@ -22,7 +22,7 @@ use Rattle.iss_accepted.proofs.Shortened.{AreWithin, rows_length, whole_row, who
 -- what is kept agrees, and shows these events
 pub record ShowsShort (bytes : List ℕ) (others : List Verdict) (rows : List ShortRow) (names : List (List ℕ)) (decided : List ℕ) (value : EventsNow) : Type 0 where
   pub kept : IsKeptShort bytes others rows names decided
-  pub view : events_now (standings_of bytes (rows_of others (length bytes) rows)) decided ≡ value
+  pub view : events_now (standings_in bytes others rows) decided ≡ value
 
 pub short_none : (bytes : List ℕ) (others : List Verdict) (rows : List ShortRow) (names : List (List ℕ)) (decided : List ℕ) → rows ≡ [] → names ≡ [] → decided ≡ []
     → IsKeptShort bytes others rows names decided
@@ -33,7 +33,7 @@ short_none bytes others rows names decided none empty undecided =
     }
 
 module _ (bytes : List ℕ) (others : List Verdict) (rows : List ShortRow) (names : List (List ℕ)) (decided : List ℕ) (value : EventsNow)
-    (kept : IsKeptShort bytes others rows names decided) (view : events_now (standings_of bytes (rows_of others (length bytes) rows)) decided ≡ value) where
+    (kept : IsKeptShort bytes others rows names decided) (view : events_now (standings_in bytes others rows) decided ≡ value) where
   -- the whole rows
   abbrev pub whole_rows : List EventRow
   whole_rows = rows_of others (length bytes) rows

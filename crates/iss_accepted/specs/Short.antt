@@ -5,7 +5,8 @@ use Rattle.iss_model.specs.declared.decision.Verdict.{Verdict}
 use Rattle.iss_model.specs.declared.decision.Verdict.TheVariants as verdict
 use Rattle.iss_accepted.specs.declared.row.EventRow.{EventRow}
 use Rattle.iss_accepted.specs.declared.short.ShortRow.{ShortRow}
-use Rattle.iss_accepted.specs.Kept.{IsKept}
+use Rattle.iss_accepted.specs.Standing.{Standing}
+use Rattle.iss_accepted.specs.Kept.{standings_of, IsKept}
 
 -- The verdict of a code, if these are the other ones: 0 is none, 1 and 2 are the two that are frequent, and 3 + n is the other one at place n.
 abbrev pub verdict_of : List Verdict → ℕ → Option Verdict
@@ -48,6 +49,10 @@ row_of others end row =
 abbrev pub rows_of : List Verdict → ℕ → List ShortRow → List EventRow
 rows_of others size [] = []
 rows_of others size (row ∷ rows) = row_of others (next_start size rows) row ∷ rows_of others size rows
+
+-- the events of all rows
+abbrev pub standings_in : List ℕ → List Verdict → List ShortRow → List Standing
+standings_in bytes others rows = standings_of bytes (rows_of others (length bytes) rows)
 
 -- the place of a code, if it has one, is below this count
 abbrev pub IsWithin : ℕ → ℕ → Type 0

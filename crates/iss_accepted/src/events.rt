@@ -35,11 +35,10 @@ impl Model for Events {
 
     ghost Value = { EventsNow };
 
-    ghost use Rattle.std.specs.Prelude.{length};
-    ghost use Rattle.iss_accepted.specs.Kept.{events_now, standings_of};
-    ghost use Rattle.iss_accepted.specs.Short.{rows_of, IsKeptShort};
+    ghost use Rattle.iss_accepted.specs.Kept.{events_now};
+    ghost use Rattle.iss_accepted.specs.Short.{standings_in, IsKeptShort};
 
-    ghost view = { λ e. events_now (standings_of e.bytes.items (rows_of e.others.items (length e.bytes.items) e.rows.items)) e.decided.items };
+    ghost view = { λ e. events_now (standings_in e.bytes.items e.others.items e.rows.items) e.decided.items };
 
     ghost invariant = { λ e. IsKeptShort e.bytes.items e.others.items e.rows.items e.names e.decided.items };
 }

@@ -11,7 +11,7 @@ use Rattle.iss_accepted.proofs.events.Events.add.Goals as goal
 
 pub add-requires : goal.add-requires
 add-requires c =
-    new_unplaced c.self.inside.bytes.items (rows_of c.self.inside.others.items (length c.self.inside.bytes.items) c.self.inside.rows.items) c.self.inside.names c.self.inside.decided.items c.args.self.now c.in-Some.token
+    new_unplaced _ _ _ _ c.args.self.now c.in-Some.token
     c.self.invariant.kept c.self.view_is (c.requires.new c.in-Some.token (sym c.in-Some.ensures))
 
 -- the row that is added
@@ -41,7 +41,7 @@ one_more : (c : goal.In_ok-push)
     → ShowsShort c.extend_from_slice.new.self.items c.self.inside.others.items c.push.new.things.items c.add.new.self c.self.inside.decided.items
     (with_record c.args.self.now c.args.number (record_now c))
 one_more c =
-    event_more c.self.inside.bytes.items c.self.inside.others.items c.self.inside.rows.items c.self.inside.names c.self.inside.decided.items c.args.self.now
+    event_more _ _ _ _ _ c.args.self.now
     c.self.invariant c.self.view_is
     c.extend_from_slice.new.self.items c.push.new.things.items c.add.new.self (newest c) (record_now c) c.in-Some.token
     (bytes_are c) (starts c)

@@ -9,14 +9,12 @@ use Rattle.iss_accepted.proofs.events.Events.decide.Goals as goal
 pub returns-in_default-clause-decided : goal.returns-in_default-clause-decided
 returns-in_default-clause-decided c =
     absurd
-    (none_accepted c.self.inside.bytes.items (rows_of c.self.inside.others.items (length c.self.inside.bytes.items) c.self.inside.rows.items) c.self.inside.names c.self.inside.decided.items
-    c.args.self.now c.args.event.now c.self.invariant.kept c.self.view_is c.in_default.ensures.value c.requires.accepted)
+    (none_accepted _ _ _ _ c.args.self.now c.args.event.now c.self.invariant.kept c.self.view_is c.in_default.ensures.value c.requires.accepted)
 
 pub index_mut-requires : goal.index_mut-requires
 index_mut-requires c =
     let below : c.in-Some.place < length c.self.inside.rows.items =
-    place_below c.self.inside.bytes.items c.self.inside.others.items c.self.inside.rows.items c.self.inside.names c.self.inside.decided.items
-    c.args.self.now c.self.invariant c.self.view_is c.args.event.now c.in-Some.place c.in-Some.ensures.value
+    place_below _ _ _ _ _ c.args.self.now c.self.invariant c.self.view_is c.args.event.now c.in-Some.place c.in-Some.ensures.value
     in omega (arith, below, c.self.inside.rows.ok.0)
 
 -- what holds anyway holds if a call fails
@@ -32,7 +30,7 @@ one_verdict c =
     (λ (ps : List ℕ).
     ShowsShort c.self.inside.bytes.items c.shortened.new.others.items c.self.inside.rows.items c.self.inside.names ps c.args.self.now)
     (sym c.in_err-push.ensures.items)
-    (verdicts_more c.self.inside.bytes.items c.self.inside.others.items c.self.inside.rows.items c.self.inside.names c.self.inside.decided.items c.args.self.now
+    (verdicts_more _ _ _ _ _ c.args.self.now
     c.self.invariant c.self.view_is (other_of c.args.verdict) c.shortened.new.others.items c.in_ok-verdict.ensures.added)
 
 pub invariant_of-self-in_err-push : goal.invariant_of-self-in_err-push
@@ -47,7 +45,7 @@ noted : (c : goal.After-self-1)
     (set c.self.inside.rows.items c.in-Some.place (record (c.index_mut.result.now) { verdict = c.in_ok-verdict.verdict })) c.self.inside.names c.push.new.self.items
     (with_decision c.args.self.now c.args.event.now c.args.verdict)
 noted c =
-    verdict_more c.self.inside.bytes.items c.self.inside.others.items c.self.inside.rows.items c.self.inside.names c.self.inside.decided.items c.args.self.now
+    verdict_more _ _ _ _ _ c.args.self.now
     c.self.invariant c.self.view_is c.args.event.now c.in-Some.place c.in-Some.ensures.value c.index_mut.result.now c.index_mut.ensures.value
     c.args.verdict c.requires.undecided c.shortened.new.others.items _ c.push.new.self.items c.in_ok-verdict.verdict
     c.in_ok-verdict.ensures.short c.in_ok-verdict.ensures.added refl c.in_ok-push.ensures.items

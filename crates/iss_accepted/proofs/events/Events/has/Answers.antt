@@ -6,5 +6,5 @@ use Rattle.iss_accepted.proofs.events.Events.has.Goals as goal
 
 pub returns : goal.returns
 returns c =
-    has_found c.self.inside.bytes.items (rows_of c.self.inside.others.items (length c.self.inside.bytes.items) c.self.inside.rows.items) c.self.inside.names c.self.inside.decided.items c.args.self.now c.args.event.now
+    has_found _ _ _ _ c.args.self.now c.args.event.now
     c.self.invariant.kept c.self.view_is c.is_some.result (c.is_some.ensures ∙ ap (λ (o : Option ℕ). is_some o) c.find.ensures.value)

@@ -11,8 +11,7 @@ pub returns : goal.returns
 returns c =
     IfOk-weaker c.seen_rows.result _ _
     (λ v is.
-    rows_seen c.self.inside.bytes.items (rows_of c.self.inside.others.items (length c.self.inside.bytes.items) c.self.inside.rows.items) c.self.inside.names c.self.inside.decided.items
-    c.args.self.now c.args.marks.now v.items c.self.invariant.kept c.self.view_is
+    rows_seen _ _ _ _ c.args.self.now c.args.marks.now v.items c.self.invariant.kept c.self.view_is
     (is ∙ seen_of))
     c.seen_rows.ensures
   where
