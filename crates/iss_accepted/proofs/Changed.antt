@@ -91,7 +91,8 @@ module _ (bytes : List ℕ) (others : List Verdict) (rows : List ShortRow) (name
     -- the event receives its verdict
     pub verdict_more : (row : ShortRow) → row ≡ get_or rows place row → (v : Verdict) → decision_named token value.decisions ≡ None
         → (others_now : List Verdict) (rows_now : List ShortRow) (decided_now : List ℕ) (kept_so : ShortVerdict)
-        → kept_so.code ≡ code_of (length others) v → others_now ≡ others ++ other_of v → rows_now ≡ set rows place (record row { verdict = kept_so }) → decided_now ≡ decided ++ place ∷ []
+        → kept_so.code ≡ code_of (length others) v → others_now ≡ others ++ other_of v
+        → rows_now ≡ set rows place (record row { verdict = kept_so }) → decided_now ≡ decided ++ place ∷ []
         → ShowsShort bytes others_now rows_now names decided_now (with_decision value token v)
     verdict_more row own v undecided others_now rows_now decided_now kept_so so grown set_so pushed =
         let whole = whole_row others (length bytes) rows place row in

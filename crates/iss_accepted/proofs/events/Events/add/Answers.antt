@@ -1,9 +1,7 @@
-use Rattle.std.proofs.Common.{◌≡◌, List, ℕ, ◌+◌, [], ◌∷◌, ◌++◌, ◌∙◌, length, ap, ap₂, sym, refl, arith, length-append}
-use Rattle.std.specs.Prelude.{Result, Ok, Err, OnErr}
+use Rattle.std.proofs.Common.{◌≡◌, List, ℕ, [], ◌∷◌, ◌++◌, ◌∙◌, length, ap, ap₂, sym, arith}
 use Rattle.iss_model.specs.declared.input.Record.{Record}
 use Rattle.iss_model.specs.texts.Spelling.{spelling}
 use Rattle.iss_accepted.specs.declared.short.ShortRow.{ShortRow}
-use Rattle.iss_accepted.specs.Short.{rows_of}
 use Rattle.iss_accepted.proofs.Steps.{in_form, new_unplaced}
 use Rattle.iss_accepted.proofs.Added.{with_record}
 use Rattle.iss_accepted.proofs.Changed.{ShowsShort, event_more}

@@ -1,7 +1,7 @@
 use Rattle.std.proofs.Common.{◌<◌, ℕ, List, length, set, refl, sym, subst, arith}
 use Rattle.std.specs.Prelude.{Result, Ok, Err, OnErr}
 use Rattle.iss_accepted.specs.Values.{with_decision}
-use Rattle.iss_accepted.specs.Short.{other_of, rows_of}
+use Rattle.iss_accepted.specs.Short.{other_of}
 use Rattle.iss_accepted.proofs.Steps.{none_accepted}
 use Rattle.iss_accepted.proofs.Changed.{ShowsShort, verdicts_more, place_below, verdict_more}
 use Rattle.iss_accepted.proofs.events.Events.decide.Goals as goal

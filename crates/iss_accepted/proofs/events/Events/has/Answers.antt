@@ -1,6 +1,5 @@
-use Rattle.std.proofs.Common.{ℕ, length, ap, ◌∙◌}
+use Rattle.std.proofs.Common.{ℕ, ap, ◌∙◌}
 use Rattle.std.specs.Prelude.{Option, is_some}
-use Rattle.iss_accepted.specs.Short.{rows_of}
 use Rattle.iss_accepted.proofs.Steps.{has_found}
 use Rattle.iss_accepted.proofs.events.Events.has.Goals as goal
 

@@ -1,5 +1,4 @@
-use Rattle.std.proofs.Common.{◌≡◌, ◌<◌, length, arith}
-use Rattle.iss_accepted.specs.Short.{rows_of}
+use Rattle.std.proofs.Common.{◌<◌, length, arith}
 use Rattle.iss_accepted.proofs.Steps.{found_replied, none_replied}
 use Rattle.iss_accepted.proofs.Changed.{place_below, row_found}
 use Rattle.iss_accepted.proofs.events.Events.reply.Goals as goal
@@ -13,8 +12,8 @@ whole_row-row-requires c =
 pub returns : goal.returns
 returns c =
     found_replied _ _ _ _ c.args.self.now c.args.event.now c.self.invariant.kept c.self.view_is c.in-Some.place c.whole_row-row.result c.in-Some.ensures.value
-    (row_found _ _ _ _ _ c.args.self.now c.self.invariant c.self.view_is c.in-Some.place c.whole_row-row.result c.deref-2.result.now c.len.result c.deref.result.now c.whole_row-row.ensures
-    c.deref-2.ensures.value (omega (arith, c.len.ensures, c.self.inside.bytes.ok.0)) c.deref.ensures.value)
+    (row_found _ _ _ _ _ c.args.self.now c.self.invariant c.self.view_is c.in-Some.place c.whole_row-row.result c.deref-2.result.now
+    c.len.result c.deref.result.now c.whole_row-row.ensures c.deref-2.ensures.value (omega (arith, c.len.ensures, c.self.inside.bytes.ok.0)) c.deref.ensures.value)
     c.reply.result c.reply.ensures
 
 pub returns-in_default : goal.returns-in_default
