@@ -1,5 +1,6 @@
 pub mod Objects
 pub mod CallTexts
 pub mod Bodies
+pub mod PlainBodies
 pub mod Echoes
 pub mod EachOutcome

@@ -1,2 +1,3 @@
 pub mod Echoes
 pub mod Outcomes
+pub mod Plain

@@ -7,8 +7,10 @@ ghost use Rattle.iss_model.specs.declared.input.Outcome.TheVariants as outcome;
 ghost use Rattle.iss_model.specs.Forms.{is_outcome};
 ghost use Rattle.iss_jit.specs.declared.answers.TheConstants.{REFUSED};
 ghost use Rattle.iss_jit.specs.Echoes.{FundsEchoes};
+ghost use Rattle.iss_jit.specs.Plain.{funding};
 ghost use Rattle.iss_jit.specs.Outcomes.{json_of, uuid_of, amount_echoed, has_token, amount_said, outcome_of_amount, outcome_of_value, outcome_of_json, outcome_of, CountsIfPart};
 
+use crate::plain::{is_token, plain_texts};
 use iss_amount::{read, whole};
 use iss_model::{Currency, Opened, Outcome};
 use serde_json::Value;
@@ -75,9 +77,25 @@ fn outcome_of_body(
     requires { instance < INSTANCES }
     ensures { IfOk result (λ said. said ≡ outcome_of_json instance opened.now (json_of body.now)) }
 {
+    if let Some((token, amount)) = plain_texts(body) {
+        return Ok(outcome_of_texts(token, amount, opened, instance));
+    }
     match value_of(alloc, body)? {
         Some(value) => Ok(outcome_of_value(&value, opened, instance)),
         None => Ok(Outcome::Application),
+    }
+}
+
+/// What the texts of a token and an amount come to.
+#[tactic(auto, unfolding(crate::specs::Outcomes::outcome_of_value, crate::specs::Outcomes::has_token, crate::specs::Outcomes::uuid_of, crate::specs::Outcomes::amount_said, crate::specs::Outcomes::amount_echoed))]
+fn outcome_of_texts(token: &[u8], amount: &[u8], opened: &Opened, instance: u64) -> Outcome
+    requires { instance < INSTANCES }
+    ensures { result ≡ outcome_of_value instance opened.now (funding token.now amount.now) }
+{
+    if is_token(token, opened, instance) {
+        outcome_of_amount(read(amount, opened.currency), opened)
+    } else {
+        Outcome::Application
     }
 }
 

@@ -3,12 +3,13 @@
 //! A text is one JSON object, exact to the byte: its members in rising order, without blanks and escapes. What a gateway
 //! answers is read as JSON, whatever its bytes.
 //!
-//! It may cite `iss_model`, `iss_amount`, `serde_json` and `uuid`.
+//! It may cite `iss_model`, `iss_amount`, `iss_field`, `json`, `serde_json` and `uuid`.
 //! It must not cite HTTP, channels or the core: it knows no heads of messages and decides nothing.
 #![tactic(auto)]
 
 mod answers;
 mod members;
+mod plain;
 mod texts;
 
 pub use answers::answer;
