@@ -104,15 +104,19 @@ impl<N: Net> Host<N> {
         }
     }
 
-    /// Has looks name this socket by its channel's number, until it is closed. If the system can't, a round of all channels finds what
-    /// comes.
-    pub fn watch(&self, socket: &TcpStream, number: u32) {
-        let handle = socket.as_raw_fd();
-        let both = Interest::READABLE | Interest::WRITABLE;
-        if let Some(listener) = &self.listener {
-            let registry = listener.poll.registry();
-            let _ = registry.register(&mut SourceFd(&handle), Token(number as usize), both);
-        }
+    /// Has looks name this socket by its channel's number, until it is closed, and says whether they do. If the system can't, a round of all
+    /// channels finds what comes.
+    pub fn watch(&self, socket: &TcpStream, number: u32, wanted: Interest) -> bool {
+        let Some(listener) = &self.listener else {
+            return false;
+        };
+        let registry = listener.poll.registry();
+        let (handle, token) = (socket.as_raw_fd(), Token(number as usize));
+        // One that was named while it was connecting is registered already.
+        registry
+            .register(&mut SourceFd(&handle), token, wanted)
+            .or_else(|_| registry.reregister(&mut SourceFd(&handle), token, wanted))
+            .is_ok()
     }
 
     /// Sleeps until something comes, for at most `most` milliseconds, and names what it came on. What came since the last look is named at

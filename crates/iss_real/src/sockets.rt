@@ -35,11 +35,14 @@ pub struct Sockets<N> {
     pub(crate) asking: Option<Channel>,
     /// Whether a look is for clients first.
     pub(crate) admits_first: bool,
+    /// Whether a client may wait to be let in.
+    pub(crate) may_admit: bool,
     /// A client that came when there was no memory for it.
     pub(crate) kept: Option<Peer>,
     pub(crate) clocks: Clocks,
-    /// When a wait began last, a time was told last, and all channels were looked at last.
+    /// When a wait began last, a look named what had come, a time was told, and all channels were looked at.
     pub(crate) at: u64,
+    pub(crate) named: u64,
     pub(crate) told: u64,
     pub(crate) looked: u64,
     /// How many answers came before the time that is due.
@@ -74,9 +77,11 @@ impl<N: Net<Stream = TcpStream> + Clock + Drop> Sockets<N> {
             ready: None,
             asking: None,
             admits_first: false,
+            may_admit: true,
             kept: None,
             clocks: Clocks::default(),
             at: 0,
+            named: 0,
             told: 0,
             looked: 0,
             in_time: 0,
@@ -108,7 +113,7 @@ impl<N: Net<Stream = TcpStream> + Clock + Drop> Sockets<N> {
         ensures channels { self.new ≡ after_dial (result_ok result) self.old }
     {
         let number = next_number(self.last)?;
-        let peer = Peer::new(monotonic(&self.host.net)?);
+        let peer = Peer::dialled(monotonic(&self.host.net)?);
         if self.dialled.push(number, peer).is_err() {
             return Err(io::Error::from(ErrorKind::OutOfMemory));
         }

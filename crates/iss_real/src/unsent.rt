@@ -8,6 +8,7 @@ ghost use Rattle.std.specs.Prelude.{◌≡◌};
 use crate::host::{Host, is_passing};
 use crate::peers::Peers;
 use iss_edge::Channel;
+use mio::Interest;
 use std::alloc::Global;
 use std::collections::VecDeque;
 use std::io;
@@ -87,17 +88,21 @@ impl Unsent {
         let Some(text) = self.texts.front() else {
             return Ok(());
         };
-        if self.socket.is_none() {
-            let socket = host.connect()?;
-            host.watch(&socket, text.ch.0);
-            self.socket = Some(socket);
+        let is_new = self.socket.is_none();
+        if is_new {
+            self.socket = Some(host.connect()?);
         }
         let mut socket = self.socket.as_ref().ok_or(ErrorKind::NotConnected)?;
-        if socket.write(&text.bytes)? < text.bytes.len() {
+        let sent = socket.write(&text.bytes);
+        if is_new && sent.is_err() {
+            host.watch(socket, text.ch.0, Interest::WRITABLE);
+        }
+        if sent? < text.bytes.len() {
             return Err(io::Error::from(ErrorKind::WriteZero));
         }
         if let (Some(peer), Some(socket)) = (peers.find(text.ch), self.socket.take()) {
             peer.connect(socket);
+            peer.watch(host, text.ch.0);
         }
         self.texts.pop_front();
         Ok(())

@@ -19,6 +19,9 @@ use std::time::Clock;
 /// How many milliseconds pass at least between two times that are told.
 const TICK: u64 = 20;
 
+/// For how many milliseconds what a look named is known well enough to go on by it.
+const FRESH: u64 = 2;
+
 /// How many milliseconds pass between two rounds of all channels, the guard against a change that no look named.
 const ROUND: u64 = 5000;
 
@@ -35,7 +38,7 @@ impl<N: Net<Stream = TcpStream> + Clock + Drop> Sockets<N> {
         ensures unused { IfOk result (ComesUnused self.old) }
         ensures channels { self.new ≡ after_wait (result_ok result) self.old }
     {
-        self.asking = None;
+        self.listen_on();
         self.at = monotonic(&self.host.net)?;
         let since = self.at.saturating_sub(self.told);
         if since >= TICK {
@@ -44,7 +47,9 @@ impl<N: Net<Stream = TcpStream> + Clock + Drop> Sockets<N> {
             self.listen_for(0)?;
             return Ok(self.tell(time));
         }
-        self.listen_for(0)?;
+        if self.at.saturating_sub(self.named) >= FRESH && self.may_be_ready() {
+            self.listen_for(0)?;
+        }
         match self.look()? {
             Arrival::Idle => {
                 self.listen_for(TICK - since)?;
@@ -52,6 +57,21 @@ impl<N: Net<Stream = TcpStream> + Clock + Drop> Sockets<N> {
             }
             arrives => Ok(arrives),
         }
+    }
+
+    /// The channel that the last wait found ready may be so again, after all others.
+    fn listen_on(&mut self)
+        ensures { self.new ≡ self.old }
+    {
+        if let Some(ch) = self.asking.take() {
+            self.clients.wake(ch);
+            self.dialled.wake(ch);
+        }
+    }
+
+    /// Whether a channel may be ready.
+    fn may_be_ready(&self) -> bool {
+        !self.clients.is_quiet() || !self.dialled.is_quiet()
     }
 
     /// The time, after the answers that came before it: one that came in time isn't judged late, however long the program paused. As many
@@ -62,7 +82,7 @@ impl<N: Net<Stream = TcpStream> + Clock + Drop> Sockets<N> {
     {
         if self.in_time < AT_ONCE {
             self.in_time += 1;
-            if let Some(ch) = self.dialled.next() {
+            if let Some(ch) = self.dialled.next(&self.host) {
                 return self.hear(ch);
             }
         }
@@ -79,6 +99,7 @@ impl<N: Net<Stream = TcpStream> + Clock + Drop> Sockets<N> {
     {
         if self.at.saturating_sub(self.looked) >= ROUND {
             self.looked = self.at;
+            self.may_admit = true;
             self.clients.wake_all(self.at, CLIENT_PATIENCE);
             self.dialled.wake_all(self.at, GATEWAY_PATIENCE);
         }
@@ -89,7 +110,10 @@ impl<N: Net<Stream = TcpStream> + Clock + Drop> Sockets<N> {
         ensures { self.new ≡ self.old }
     {
         let names = self.host.look(most)?;
-        wake_named(names, &mut self.clients, &mut self.dialled);
+        if note_named(names, &mut self.clients, &mut self.dialled) {
+            self.may_admit = true;
+        }
+        self.named = monotonic(&self.host.net)?;
         self.texts
             .send_all(&mut self.host, &mut self.dialled, false);
         Ok(())
@@ -118,10 +142,10 @@ impl<N: Net<Stream = TcpStream> + Clock + Drop> Sockets<N> {
         ensures unused { ComesUnused self.old result }
         ensures channels { self.new ≡ after_wait (Some result) self.old }
     {
-        if let Some(ch) = self.dialled.next() {
+        if let Some(ch) = self.dialled.next(&self.host) {
             return self.hear(ch);
         }
-        match self.clients.next() {
+        match self.clients.next(&self.host) {
             Some(ch) => self.hear(ch),
             None => Arrival::Idle,
         }
@@ -146,7 +170,6 @@ impl<N: Net<Stream = TcpStream> + Clock + Drop> Sockets<N> {
             return Ok(Arrival::Idle);
         };
         let number = next_number(self.last)?;
-        peer.watch(&self.host, number);
         match self.clients.push(number, peer) {
             Ok(()) => {
                 self.clients.wake(Channel(number));
@@ -167,21 +190,27 @@ impl<N: Net<Stream = TcpStream> + Clock + Drop> Sockets<N> {
         if self.kept.is_some() {
             return self.kept.take();
         }
-        let socket = self.host.accept().ok()?;
-        let peer = Peer::new(self.at);
-        peer.connect(socket);
-        Some(peer)
+        if !self.may_admit {
+            return None;
+        }
+        let accepted = self.host.accept();
+        // One more may wait, unless the system says that none does.
+        self.may_admit = !matches!(&accepted, Err(e) if e.kind() == ErrorKind::WouldBlock);
+        Some(Peer::client(accepted.ok()?, self.at))
     }
 }
 
-/// The channels that these name may be ready.
-fn wake_named(names: Iter<'_>, clients: &mut Peers, dialled: &mut Peers)
+/// Notes what came on the channels that these name, and says whether a client came.
+fn note_named(names: Iter<'_>, clients: &mut Peers, dialled: &mut Peers) -> bool
     ensures clients { clients.new ≡ clients.old }
     ensures dialled { dialled.new ≡ dialled.old }
 {
+    let mut has_client = false;
     for event in names {
         let ch = Channel(u32::try_from(event.token().0).unwrap_or(0));
-        clients.wake(ch);
-        dialled.wake(ch);
+        has_client = has_client || ch.0 == 0;
+        clients.note(ch, event.is_read_closed());
+        dialled.note(ch, event.is_read_closed());
     }
+    has_client
 }
