@@ -19,7 +19,7 @@ use std::time::Clock;
 /// How many milliseconds pass at least between two times that are told.
 const TICK: u64 = 20;
 
-/// For how many milliseconds what a look named is known well enough to go on by it.
+/// For how many milliseconds after a look none is needed while a channel may be ready.
 const FRESH: u64 = 2;
 
 /// How many milliseconds pass between two rounds of all channels, the guard against a change that no look named.

@@ -116,6 +116,25 @@ fn connects<E: Edge>(edge: &mut E) -> bool {
     asked && answered && ended && edge.emit(ours, b"more").is_err()
 }
 
+/// Whether each piece that comes on a connection is found, one that fills the buffer too, and the end that comes with the last one, once.
+fn finds_each_piece<E: Edge>(edge: &mut E) -> bool {
+    let mut buf = [0; 8];
+    let Some((ours, theirs)) = connection(edge) else {
+        return false;
+    };
+    let whole = taken(edge, &mut buf) == Some((theirs.0, 3));
+    let cut = edge.emit(ours, b"piece by piece").is_ok()
+        && taken(edge, &mut buf) == Some((theirs.0, 8))
+        && taken(edge, &mut buf) == Some((theirs.0, 6));
+    let is_out = edge.emit(ours, b"last").is_ok();
+    edge.close(ours);
+    let ended = taken(edge, &mut buf) == Some((theirs.0, 4))
+        && taken(edge, &mut buf) == Some((theirs.0, 0))
+        && taken(edge, &mut buf).is_none();
+    edge.close(theirs);
+    whole && cut && is_out && ended
+}
+
 #[test]
 fn a_file_and_a_connection(rt: HostRuntime) -> Result<(), Fail> {
     let _ = remove_file(&rt, FILE);
@@ -127,6 +146,7 @@ fn a_file_and_a_connection(rt: HostRuntime) -> Result<(), Fail> {
     assert!(rt; keeps_what_is_written(&mut edge));
     assert!(rt; sees_what_is_written_over(&mut edge));
     assert!(rt; connects(&mut edge));
+    assert!(rt; finds_each_piece(&mut edge));
     Ok(())
 }
 
