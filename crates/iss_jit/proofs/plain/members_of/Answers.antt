@@ -6,4 +6,4 @@ pub returns-then-is_end : goal.returns-then-is_end
 returns-then-is_end c =
     let token = c.in_ok-token in
     let amount = c.in_ok-amount in
-    funding_read c.args.text.now token.token.now amount.amount.now token.rest.now amount.rest.now token.ensures amount.ensures (search rules)
+    funding_read c.args.text.now token.token.now amount.amount.now token.rest.now amount.rest.now token.ensures.spelled amount.ensures.spelled (search rules)
