@@ -1,2 +1,3 @@
+pub mod Boxes
 pub mod PendingNotices
 pub mod Restoring

@@ -1,5 +1,5 @@
 -- The notices by number: one more, one less, and a notice that is found.
-use Rattle.std.proofs.Common.{◌≡◌, ℕ, suc, ◌<◌, ◌≤◌, nat_lt, nat_le, ◌==◌, Bool, true, false, cond, not, ◌&&◌, ◌||◌, List, [], ◌∷◌, ◌++◌, map, filter, length, refl, sym, ap, ◌∙◌, subst, true≢false, arith}
+use Rattle.std.proofs.Common.{◌≡◌, ℕ, ◌<◌, ◌≤◌, nat_lt, nat_le, ◌==◌, Bool, true, false, cond, not, ◌&&◌, ◌||◌, List, [], ◌∷◌, ◌++◌, map, filter, refl, sym, ap, ◌∙◌, subst, true≢false, arith}
 use Rattle.std.proofs.lemmas.Bool.Decides.{nat_tests}
 use Rattle.std.specs.Prelude.{Option, Some, Ok, Err, IsTrue, IsErrOf, is_some, is_ok, find}
 use Rattle.std.specs.List.{AllByRecursion, list_any}
@@ -8,8 +8,7 @@ use Rattle.std.specs.declared.cmp.Ordering.{Ordering}
 use Rattle.std.specs.declared.cmp.Ordering.TheVariants.{Less, Equal, Greater}
 use Rattle.std.specs.Ordering.{nat_cmp, match_ordering, is_eq}
 use Rattle.std.specs.Cmp.{nat_cmp_total, unsigned_ties, Equal-is}
-use Rattle.std.specs.BTreeMap as tree
-use Rattle.std.specs.BTreeMap.{BTreeMap, insert_entry, is_at, values}
+use Rattle.std.specs.BTreeMap.{insert_entry, is_at}
 use Rattle.std.specs.Map.{keys_of, values_of, lookup, remove_entry}
 use Rattle.iss_model.specs.declared.call.Notice.{Notice}
 use Rattle.iss_model.specs.state.Cores.{Outbox, with_acked}
@@ -49,19 +48,19 @@ kept_push made (x ∷ es) n notice e own all =
     (record { own = all.0.own; first = all.0.first; last = let last = all.0.last in omega arith }, kept_push made es n notice e own all.1)
 
 -- one more notice
-pub kept_more : (made n : ℕ) (old new : BTreeMap ℕ Notice) (notice : Notice) → AreNoticesKept made old → made < n → notice.number ≡ n
-    → new.entries ≡ insert_entry nat_cmp old.entries n notice → tree.IsOrdered nat_cmp new → AreNoticesKept n new
+pub kept_more : (made n : ℕ) (old new : List Entry) (notice : Notice) → AreNoticesKept made old → made < n → notice.number ≡ n
+    → new ≡ insert_entry nat_cmp old n notice → IsStrictlySortedBy nat_cmp (keys_of new) → AreNoticesKept n new
 kept_more made n old new notice a e own entries rising = record {
-  each = subst (λ (es : List Entry). AllByRecursion (IsAtNumber n) es) (sym (entries ∙ goes_last made old.entries n notice e a.each)) (kept_push made old.entries n notice e own a.each);
+  each = subst (λ (es : List Entry). AllByRecursion (IsAtNumber n) es) (sym (entries ∙ goes_last made old n notice e a.each)) (kept_push made old n notice e own a.each);
   rising = rising;
 }
 
-pub values_more : (made n : ℕ) (old new : BTreeMap ℕ Notice) (notice : Notice) → AreNoticesKept made old → made < n → new.entries ≡ insert_entry nat_cmp old.entries n notice
-    → values new ≡ values old ++ notice ∷ []
-values_more made n old new notice a e entries = ap (λ (es : List Entry). values_of es) (entries ∙ goes_last made old.entries n notice e a.each) ∙ values_push old.entries n notice
+pub values_more : (made n : ℕ) (old new : List Entry) (notice : Notice) → AreNoticesKept made old → made < n → new ≡ insert_entry nat_cmp old n notice
+    → values_of new ≡ values_of old ++ notice ∷ []
+values_more made n old new notice a e entries = ap (λ (es : List Entry). values_of es) (entries ∙ goes_last made old n notice e a.each) ∙ values_push old n notice
 
 -- no notice, in an empty tree
-pub kept_none : (pending : BTreeMap ℕ Notice) → pending.entries ≡ [] → tree.IsOrdered nat_cmp pending → AreNoticesKept 0 pending
+pub kept_none : (pending : List Entry) → pending ≡ [] → IsStrictlySortedBy nat_cmp (keys_of pending) → AreNoticesKept 0 pending
 kept_none pending e rising = record { each = subst (λ (es : List Entry). AllByRecursion (IsAtNumber 0) es) (sym e) tt; rising = rising }
 
 all_without : (P : Entry → Type 0) (test : ℕ → Bool) (es : List Entry) → AllByRecursion P es → AllByRecursion P (remove_entry test es)
@@ -73,9 +72,9 @@ all_without P test (x ∷ es) all =
     ]
 
 -- one less notice
-pub kept_less : (made n : ℕ) (old new : BTreeMap ℕ Notice) → AreNoticesKept made old → new.entries ≡ remove_entry (is_at (nat_cmp n)) old.entries → tree.IsOrdered nat_cmp new → AreNoticesKept made new
+pub kept_less : (made n : ℕ) (old new : List Entry) → AreNoticesKept made old → new ≡ remove_entry (is_at (nat_cmp n)) old → IsStrictlySortedBy nat_cmp (keys_of new) → AreNoticesKept made new
 kept_less made n old new a entries rising = record {
-  each = subst (λ (es : List Entry). AllByRecursion (IsAtNumber made) es) (sym entries) (all_without (IsAtNumber made) (is_at (nat_cmp n)) old.entries a.each);
+  each = subst (λ (es : List Entry). AllByRecursion (IsAtNumber made) es) (sym entries) (all_without (IsAtNumber made) (is_at (nat_cmp n)) old a.each);
   rising = rising;
 }
 
@@ -108,8 +107,8 @@ less made n [] all rising = refl
 less made n (x ∷ es) all rising =
     less_by made n x es (is_at (nat_cmp n) x.0) refl (ap (λ (k : ℕ). n == k) all.0.own ∙ unsigned_ties n x.0) rising.0 all.1 (less made n es all.1 rising.1)
 
-pub values_less : (made n : ℕ) (old new : BTreeMap ℕ Notice) → AreNoticesKept made old → new.entries ≡ remove_entry (is_at (nat_cmp n)) old.entries → values new ≡ filter (is_other n) (values old)
-values_less made n old new a entries = ap (λ (es : List Entry). values_of es) entries ∙ less made n old.entries a.each a.rising
+pub values_less : (made n : ℕ) (old new : List Entry) → AreNoticesKept made old → new ≡ remove_entry (is_at (nat_cmp n)) old → values_of new ≡ filter (is_other n) (values_of old)
+values_less made n old new a entries = ap (λ (es : List Entry). values_of es) entries ∙ less made n old a.each a.rising
 
 turned : (n m : ℕ) → (n == m) ≡ (m == n)
 turned n m = grind (arith, nat_tests)
@@ -124,8 +123,8 @@ found made n (x ∷ es) all =
     ap (λ (b : Bool). cond b (Some x.1) (lookup (is_at (nat_cmp n)) es)) (own_test made n x all.0)
     ∙ ap (λ (o : Option Notice). cond (x.1.number == n) (Some x.1) o) (found made n es all.1)
 
-pub found_notice : (made n : ℕ) (pending : BTreeMap ℕ Notice) → AreNoticesKept made pending → lookup (is_at (nat_cmp n)) pending.entries ≡ pending_notice n (record { made = made; pending = values pending })
-found_notice made n pending a = found made n pending.entries a.each
+pub found_notice : (made n : ℕ) (pending : List Entry) → AreNoticesKept made pending → lookup (is_at (nat_cmp n)) pending ≡ pending_notice n (record { made = made; pending = values_of pending })
+found_notice made n pending a = found made n pending a.each
 
 some_any : (n : ℕ) (ns : List Notice) → is_some (find (λ notice. notice.number == n) ns) ≡ list_any (λ notice. notice.number == n) ns
 some_any n [] = refl
@@ -136,16 +135,12 @@ some_any n (x ∷ ns) =
     ]
 
 -- whether a number finds one
-pub found_any : (made n : ℕ) (pending : BTreeMap ℕ Notice) → AreNoticesKept made pending → is_some (lookup (is_at (nat_cmp n)) pending.entries) ≡ is_pending n (record { made = made; pending = values pending })
-found_any made n pending a = ap is_some (found made n pending.entries a.each) ∙ some_any n (values pending)
+pub found_any : (made n : ℕ) (pending : List Entry) → AreNoticesKept made pending → is_some (lookup (is_at (nat_cmp n)) pending) ≡ is_pending n (record { made = made; pending = values_of pending })
+found_any made n pending a = ap is_some (found made n pending a.each) ∙ some_any n (values_of pending)
 
 pub numbers : (made : ℕ) (es : List Entry) → AllByRecursion (IsAtNumber made) es → keys_of es ≡ map (λ notice. notice.number) (values_of es)
 numbers made [] all = refl
 numbers made (x ∷ es) all = let rest = numbers made es all.1 in λ i. sym all.0.own i ∷ rest i
-
-pub length_values : (es : List Entry) → length es ≡ length (values_of es)
-length_values [] = refl
-length_values (x ∷ es) = ap suc (length_values es)
 
 not_pending : (made n : ℕ) (es : List Entry) → (nat_le 1 n && nat_le n made) ≡ false → AllByRecursion (IsAtNumber made) es → list_any (λ notice. notice.number == n) (values_of es) ≡ false
 not_pending made n [] h all = refl
@@ -157,21 +152,21 @@ not_pending made n (x ∷ es) h all =
     other m k made n e first last h = grind (arith, nat_tests)
 
 -- a notice that wasn't made isn't pending
-pub none_pending : (made n : ℕ) (pending : BTreeMap ℕ Notice) → AreNoticesKept made pending → is_made n (record { made = made; pending = values pending }) ≡ false
-    → is_pending n (record { made = made; pending = values pending }) ≡ false
-none_pending made n pending a h = not_pending made n pending.entries h a.each
+pub none_pending : (made n : ℕ) (pending : List Entry) → AreNoticesKept made pending → is_made n (record { made = made; pending = values_of pending }) ≡ false
+    → is_pending n (record { made = made; pending = values_of pending }) ≡ false
+none_pending made n pending a h = not_pending made n pending h a.each
 
 -- in the outbox that contracts see, a notice is pending exactly if it is kept
-pub pending_is : (made n : ℕ) (pending : BTreeMap ℕ Notice) (o : Outbox) → AreNoticesKept made pending → record { made = made; pending = values pending } ≡ o
-    → is_some (lookup (is_at (nat_cmp n)) pending.entries) ≡ is_pending n o
+pub pending_is : (made n : ℕ) (pending : List Entry) (o : Outbox) → AreNoticesKept made pending → record { made = made; pending = values_of pending } ≡ o
+    → is_some (lookup (is_at (nat_cmp n)) pending) ≡ is_pending n o
 pending_is made n pending o a e = found_any made n pending a ∙ ap (λ (x : Outbox). is_pending n x) e
 
-pub unmade : (made n : ℕ) (pending : BTreeMap ℕ Notice) (o : Outbox) → AreNoticesKept made pending → record { made = made; pending = values pending } ≡ o
+pub unmade : (made n : ℕ) (pending : List Entry) (o : Outbox) → AreNoticesKept made pending → record { made = made; pending = values_of pending } ≡ o
     → is_made n o ≡ false → is_pending n o ≡ false
 unmade made n pending o a e =
     subst (λ (x : Outbox). is_made n x ≡ false → is_pending n x ≡ false) e (none_pending made n pending a)
 
-pub made_is : (made n : ℕ) (pending : BTreeMap ℕ Notice) (o : Outbox) → record { made = made; pending = values pending } ≡ o → (n ≡ 0 → ⊥) → n ≤ made → is_made n o ≡ true
+pub made_is : (made n : ℕ) (pending : List Entry) (o : Outbox) → record { made = made; pending = values_of pending } ≡ o → (n ≡ 0 → ⊥) → n ≤ made → is_made n o ≡ true
 made_is made n pending o e some h = ap (λ (x : Outbox). is_made n x) (sym e) ∙ within made n some h
   where
     within : (made n : ℕ) → (n ≡ 0 → ⊥) → n ≤ made → (nat_le 1 n && nat_le n made) ≡ true
@@ -203,8 +198,8 @@ pub refused_already : (p m : Bool) → p ≡ false → m ≡ true
 refused_already p m h k = (λ e. ap (λ (b : Bool). m && not b) h ∙ ap (λ (b : Bool). b && true) k, λ e. refl)
 
 -- the outbox after a number is taken out of what is kept
-pub outbox_less : (made n : ℕ) (old new : BTreeMap ℕ Notice) (o : Outbox) → AreNoticesKept made old → record { made = made; pending = values old } ≡ o
-    → new.entries ≡ remove_entry (is_at (nat_cmp n)) old.entries → record { made = made; pending = values new } ≡ with_acked o n
+pub outbox_less : (made n : ℕ) (old new : List Entry) (o : Outbox) → AreNoticesKept made old → record { made = made; pending = values_of old } ≡ o
+    → new ≡ remove_entry (is_at (nat_cmp n)) old → record { made = made; pending = values_of new } ≡ with_acked o n
 outbox_less made n old new o a e entries =
     ap (λ (notices : List Notice). record { made = made; pending = notices }) (values_less made n old new a entries)
     ∙ ap (λ (x : Outbox). with_acked x n) e

@@ -22,20 +22,22 @@ pub enum NoticeFault {
 #[derive(Drop)]
 pub struct Notices {
     made: u32,
-    pending: BTreeMap<u32, Notice>,
+    // Boxed, since rising numbers leave the tree's nodes half full.
+    pending: BTreeMap<u32, Box<Notice>>,
+    alloc: Global,
 }
 
 impl Model for Notices {
-    ghost use Rattle.std.specs.BTreeMap.{values};
+    ghost use Rattle.std.specs.Map.{values_of};
     ghost use Rattle.iss_model.specs.state.Cores.{Outbox};
 
     ghost Value = { Outbox };
 
-    ghost use Rattle.iss_notice.specs.Kept.{AreNoticesKept};
+    ghost use Rattle.iss_notice.specs.Kept.{AreNoticesKept, noted};
 
-    ghost view = { λ n. record { made = n.made; pending = values n.pending } };
+    ghost view = { λ n. record { made = n.made; pending = values_of (noted n.pending) } };
 
-    ghost invariant = { λ n. AreNoticesKept n.made n.pending };
+    ghost invariant = { λ n. AreNoticesKept n.made (noted n.pending) };
 }
 
 impl Notices {
@@ -46,6 +48,7 @@ impl Notices {
         Ok(Notices {
             made: 0,
             pending: BTreeMap::new(alloc),
+            alloc,
         })
     }
 
@@ -56,9 +59,13 @@ impl Notices {
     {
         let mut pending = BTreeMap::new(alloc);
         for notice in list {
-            pending.insert(notice.number, *notice)?;
+            pending.insert(notice.number, Box::new(alloc, *notice)?)?;
         }
-        Ok(Notices { made, pending })
+        Ok(Notices {
+            made,
+            pending,
+            alloc,
+        })
     }
 
     /// Adds a notice of the next number. If an allocation fails, all stays as it was.
@@ -67,7 +74,8 @@ impl Notices {
         ensures added { OnOk result (self.new ≡ with_notice self.old notice.now) }
         ensures unchanged { OnErr result (self.new ≡ self.old) }
     {
-        self.pending.insert(notice.number, *notice)?;
+        let boxed = Box::new(self.alloc, *notice)?;
+        self.pending.insert(notice.number, boxed)?;
         self.made = notice.number;
         Ok(())
     }
@@ -101,14 +109,19 @@ impl Notices {
     pub fn pending_notices(&self, alloc: Global) -> Result<Vec<Notice>, AllocError>
         ensures { IfOk result (λ v. v.items ≡ self.now.pending) }
     {
-        self.pending.values().copied().collect(alloc)
+        let mut notices = Vec::new(alloc);
+        for notice in self.pending.values() {
+            notices.push(**notice)?;
+        }
+        Ok(notices)
     }
 
     /// A notice, `None` exactly if there is none of that number or it is acknowledged.
     pub fn get(&self, number: u32) -> Option<&Notice>
         ensures { option_copied result ≡ pending_notice number self.now }
     {
-        self.pending.get(&number)
+        let notice = self.pending.get(&number)?;
+        Some(notice)
     }
 
     /// How many notices were made, which is the number of the last.
