@@ -16,7 +16,7 @@ use Rattle.iss_hold.specs.Holdings.{begun, txn_of_hold, part_sums, user_sums, ho
 use Rattle.iss_hold.specs.Expiries.{Expiry, expiry_of, item_of, with_expiry, expiries}
 use Rattle.iss_hold.specs.Indexes.{by_expiry}
 
-fold_push : {S A : Type 0} (f : S → A → S) (s : S) (xs : List A) (x : A) → fold f s (xs ++ x ∷ []) ≡ f (fold f s xs) x
+pub fold_push : {S A : Type 0} (f : S → A → S) (s : S) (xs : List A) (x : A) → fold f s (xs ++ x ∷ []) ≡ f (fold f s xs) x
 fold_push f s [] x = refl
 fold_push f s (a ∷ xs) x = fold_push f (f s a) xs x
 
@@ -46,7 +46,7 @@ holdings_more hs t none =
     let held = fold_push (λ (kept : Kept) (h : Hold). after_changes kept (user_sums h)) nothing_kept hs (begun t) in
     λ j. record { txns = txns j; parts = parts j; held = held j }
 
-filter_push : (hs : List Hold) (h : Hold) → h.live ≡ true → filter (λ k. k.live) (hs ++ h ∷ []) ≡ filter (λ k. k.live) hs ++ h ∷ []
+pub filter_push : (hs : List Hold) (h : Hold) → h.live ≡ true → filter (λ k. k.live) (hs ++ h ∷ []) ≡ filter (λ k. k.live) hs ++ h ∷ []
 filter_push [] h e = ap (λ (b : Bool). cond b (h ∷ []) []) e
 filter_push (a ∷ hs) h e =
     elim a.live as (λ t. cond t (a ∷ filter (λ k. k.live) (hs ++ h ∷ [])) (filter (λ k. k.live) (hs ++ h ∷ [])) ≡ cond t (a ∷ filter (λ k. k.live) hs) (filter (λ k. k.live) hs) ++ h ∷ []) [
@@ -61,15 +61,15 @@ expiries_more hs t =
     ∙ fold_push with_expiry [] (map expiry_of (filter (λ k. k.live) hs)) (expiry_of (begun t))
 
 -- no expiry is of this record
-abbrev NoneOf : ℕ → List Expiry → Type 0
+abbrev pub NoneOf : ℕ → List Expiry → Type 0
 NoneOf number es = AllByRecursion (λ e. (number == e.0.1) ≡ false) es
 
-none_with : (number : ℕ) (x : Expiry) (es : List Expiry) → (number == x.0.1) ≡ false → NoneOf number es → NoneOf number (with_expiry es x)
+pub none_with : (number : ℕ) (x : Expiry) (es : List Expiry) → (number == x.0.1) ≡ false → NoneOf number es → NoneOf number (with_expiry es x)
 none_with number x [] h n = (h, tt)
 none_with number x (a ∷ es) h n =
     elim (is_before (item_of x) (item_of a)) as (λ t. NoneOf number (cond t (x ∷ a ∷ es) (a ∷ with_expiry es x))) [ true ↦ (h, (n.0, n.1)) | false ↦ (n.0, none_with number x es h n.1) ]
 
-none_fold : (number : ℕ) (acc xs : List Expiry) → NoneOf number acc → NoneOf number xs → NoneOf number (fold with_expiry acc xs)
+pub none_fold : (number : ℕ) (acc xs : List Expiry) → NoneOf number acc → NoneOf number xs → NoneOf number (fold with_expiry acc xs)
 none_fold number acc [] n m = n
 none_fold number acc (x ∷ xs) n m = none_fold number (with_expiry acc x) xs (none_with number x acc m.0 n) m.1
 
@@ -77,7 +77,7 @@ none_or : (a b : Bool) → (a || b) ≡ false → (a ≡ false) × (b ≡ false)
 none_or true b h = cc
 none_or false b h = (refl, h)
 
-none_live : (number : ℕ) (hs : List Hold) → list_any (λ t. number == t.txn.origin) (map txn_of_hold hs) ≡ false → NoneOf number (map expiry_of (filter (λ h. h.live) hs))
+pub none_live : (number : ℕ) (hs : List Hold) → list_any (λ t. number == t.txn.origin) (map txn_of_hold hs) ≡ false → NoneOf number (map expiry_of (filter (λ h. h.live) hs))
 none_live number [] e = tt
 none_live number (h ∷ hs) e =
     let parts = none_or (number == h.txn.origin) (list_any (λ t. number == t.txn.origin) (map txn_of_hold hs)) e in
@@ -95,14 +95,8 @@ goes_by false true false false a b c e = refl
 goes_by false false m n a b c e = refl
 
 -- to insert an expiry of a new record is to place it
-inserted : (x : Expiry) (es : List Expiry) → NoneOf x.0.1 es → insert_entry by_expiry es x.0 x.1 ≡ with_expiry es x
+pub inserted : (x : Expiry) (es : List Expiry) → NoneOf x.0.1 es → insert_entry by_expiry es x.0 x.1 ≡ with_expiry es x
 inserted x [] n = refl
 inserted x (a ∷ es) n =
     goes_by (nat_lt x.0.0 a.0.0) (x.0.0 == a.0.0) (nat_lt x.0.1 a.0.1) (x.0.1 == a.0.1) (x ∷ a ∷ es) ((a.0, x.1) ∷ es) (a ∷ insert_entry by_expiry es x.0 x.1) n.0
     ∙ ap (λ (rest : List Expiry). cond (is_before (item_of x) (item_of a)) (x ∷ a ∷ es) (a ∷ rest)) (inserted x es n.1)
-
-pub entries_more : (hs : List Hold) (t : Txn) → list_any (λ u. t.origin == u.txn.origin) (map txn_of_hold hs) ≡ false
-    → insert_entry by_expiry (expiries hs) (t.expires, t.origin) t.token ≡ expiries (hs ++ begun t ∷ [])
-entries_more hs t none =
-    inserted (expiry_of (begun t)) (expiries hs) (none_fold t.origin [] (map expiry_of (filter (λ h. h.live) hs)) tt (none_live t.origin hs none))
-    ∙ sym (expiries_more hs t)

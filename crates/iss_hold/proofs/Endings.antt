@@ -18,7 +18,7 @@ use Rattle.iss_model.specs.Sums.{Change}
 use Rattle.iss_model.proofs.Names.{name-sym, its_name}
 use Rattle.iss_hold.specs.declared.hold.Hold.{Hold}
 use Rattle.iss_hold.specs.Holdings.{txn_of_hold, part_sums, user_sums, sums_from, holdings_of}
-use Rattle.iss_hold.specs.Expiries.{Expiry, expiry_of, with_expiry, expiries}
+use Rattle.iss_hold.specs.Expiries.{Expiry, expiry_of, live_ones, with_expiry, expiries}
 use Rattle.iss_hold.specs.Indexes.{by_expiry, origins, names}
 use Rattle.iss_hold.proofs.HoldTotals.{apart_from}
 use Rattle.iss_hold.proofs.ExpiryOrder.{filter_fold}
@@ -68,7 +68,7 @@ pub by_expiry_total : IsTotalOrder by_expiry
 by_expiry_total = then_total (on_total (λ (k : ℕ × ℕ). k.0) nat_cmp_total) (on_total (λ (k : ℕ × ℕ). k.1) nat_cmp_total)
 
 -- another key than this one
-abbrev other_than : (ℕ × ℕ) → Expiry → Bool
+abbrev pub other_than : (ℕ × ℕ) → Expiry → Bool
 other_than key e = not (is_at (by_expiry key) e.0)
 
 all_other : (key : ℕ × ℕ) (first : ℕ × ℕ) (es : List Expiry) → by_expiry key first ≡ Equal → AllByRecursion (λ k. by_expiry first k ≡ Less) (keys_of es) → filter (other_than key) es ≡ es
@@ -85,7 +85,7 @@ removed_by key e es true t h rest = sym (all_other key e.0 es ((Equal-is (by_exp
 removed_by key e es false t h rest = ap (λ (xs : List Expiry). e ∷ xs) rest
 
 -- to remove a key is to keep the others
-removed : (key : ℕ × ℕ) (es : List Expiry) → IsStrictlySortedBy by_expiry (keys_of es) → remove_entry (is_at (by_expiry key)) es ≡ filter (other_than key) es
+pub removed : (key : ℕ × ℕ) (es : List Expiry) → IsStrictlySortedBy by_expiry (keys_of es) → remove_entry (is_at (by_expiry key)) es ≡ filter (other_than key) es
 unfolding IsStrictlySortedBy
 removed key [] o = refl
 removed key (e ∷ es) o = removed_by key e es (is_at (by_expiry key) e.0) refl o.0 (removed key es o.1)
@@ -99,12 +99,12 @@ not_equal : (l : Bool) → is_eq (cond l Less (cond false Equal Greater)) ≡ fa
 not_equal true = refl
 not_equal false = refl
 
-apart : (a b : ℕ × ℕ) → (a.1 == b.1) ≡ false → is_at (by_expiry a) b ≡ false
+pub apart : (a b : ℕ × ℕ) → (a.1 == b.1) ≡ false → is_at (by_expiry a) b ≡ false
 apart a b e =
     second_decides (nat_cmp a.0 b.0) (nat_cmp a.1 b.1)
     (ap (λ (q : Bool). is_eq (cond (nat_lt a.1 b.1) Less (cond q Equal Greater))) e ∙ not_equal (nat_lt a.1 b.1))
 
-other_way : (a b : ℕ) → (a == b) ≡ false → (b == a) ≡ false
+pub other_way : (a b : ℕ) → (a == b) ≡ false → (b == a) ≡ false
 other_way a b h = grind (arith, nat_tests)
 
 others_kept : (key : ℕ × ℕ) (hs : List Hold) → AllByRecursion (λ number. (key.1 == number) ≡ false) (origins hs)
@@ -119,7 +119,7 @@ others_kept key (x ∷ hs) h =
       | false ↦ others_kept key hs h.1
     ]
 
-number_at : (number : ℕ) (hs : List Hold) (i : ℕ) (h : Hold) → slice_get hs i ≡ Some h → AllByRecursion (λ other. (number == other) ≡ false) (origins hs) → (number == h.txn.origin) ≡ false
+pub number_at : (number : ℕ) (hs : List Hold) (i : ℕ) (h : Hold) → slice_get hs i ≡ Some h → AllByRecursion (λ other. (number == other) ≡ false) (origins hs) → (number == h.txn.origin) ≡ false
 number_at number [] i h e a = cc
 number_at number (x ∷ hs) zero h e a = let same : x ≡ h = cc in subst (λ (y : Hold). (number == y.txn.origin) ≡ false) same a.0
 number_at number (x ∷ hs) (suc i) h e a = number_at number hs i h e a.1
@@ -149,11 +149,10 @@ kept_end (x ∷ hs) (suc i) h e d =
     ]
 
 -- the expiries when a transaction has ended
-pub expiries_less : (hs : List Hold) (i : ℕ) (h : Hold) → slice_get hs i ≡ Some h → IsDistinct nat_eq (origins hs) → IsStrictlySortedBy by_expiry (keys_of (expiries hs))
-    → remove_entry (is_at (by_expiry (h.txn.expires, h.txn.origin))) (expiries hs) ≡ expiries (set hs i (ended h))
-expiries_less hs i h e d o =
-    removed (h.txn.expires, h.txn.origin) (expiries hs) o
-    ∙ filter_fold (other_than (h.txn.expires, h.txn.origin)) [] (map expiry_of (filter (λ k. k.live) hs)) tt
+pub expiries_less : (hs : List Hold) (i : ℕ) (h : Hold) → slice_get hs i ≡ Some h → IsDistinct nat_eq (origins hs)
+    → filter (other_than (h.txn.expires, h.txn.origin)) (expiries hs) ≡ expiries (set hs i (ended h))
+expiries_less hs i h e d =
+    filter_fold (other_than (h.txn.expires, h.txn.origin)) [] (live_ones hs) tt
     ∙ ap (λ (es : List Expiry). fold with_expiry [] es) (kept_end hs i h e d)
 
 kept_same : (hs : List Hold) (i : ℕ) (h k : Hold) → slice_get hs i ≡ Some h → k.txn ≡ h.txn → k.live ≡ h.live

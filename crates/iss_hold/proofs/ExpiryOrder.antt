@@ -1,12 +1,11 @@
 -- Expiries in their order: one more, one less, and those that have come.
-use Rattle.std.proofs.Common.{◌≡◌, ℕ, nat_le, Bool, true, false, cond, List, [], ◌∷◌, map, fold, filter, length, not, ◌<◌, refl, sym, ap, ◌∙◌, arith}
-use Rattle.std.specs.Prelude.{Some, slice_get}
+use Rattle.std.proofs.Common.{◌≡◌, ℕ, nat_le, Bool, true, false, cond, ◌||◌, List, [], ◌∷◌, map, fold, filter, not, refl, sym, ap, ◌∙◌, arith}
 use Rattle.std.proofs.lemmas.Bool.Decides.{nat_tests}
-use Rattle.std.specs.List.{AllByRecursion}
+use Rattle.std.specs.List.{AllByRecursion, list_any}
 use Rattle.iss_model.specs.rules.Due.{DueItem, due_txn, txn_due, is_before, is_quiet, items_with}
 use Rattle.iss_hold.specs.declared.hold.Hold.{Hold}
 use Rattle.iss_hold.specs.Holdings.{txn_of_hold, holdings_of}
-use Rattle.iss_hold.specs.Expiries.{Expiry, expiry_of, item_of, with_expiry, expiries, txns_due}
+use Rattle.iss_hold.specs.Expiries.{Expiry, expiry_of, item_of, with_expiry, expiries, has_come, come_of, txns_due}
 
 abbrev pub before : Expiry → Expiry → Bool
 before a b = is_before (item_of a) (item_of b)
@@ -82,15 +81,6 @@ filter_fold p acc (x ∷ xs) o =
     ∙ ap (λ (es : List Expiry). fold with_expiry es (filter p xs)) (filter_with p x acc o)
     ∙ elim (p x) as (λ t. fold with_expiry (cond t (with_expiry (filter p acc) x) (filter p acc)) (filter p xs) ≡ fold with_expiry (filter p acc) (cond t (x ∷ filter p xs) (filter p xs))) [ true ↦ refl | false ↦ refl ]
 
--- an expiry has come
-abbrev pub has_come : ℕ → Expiry → Bool
-has_come now e = nat_le e.0.0 now
-
--- the first expiries, up to one that hasn't come
-abbrev pub come_of : ℕ → List Expiry → List Expiry
-come_of now [] = []
-come_of now (e ∷ es) = cond (has_come now e) (e ∷ come_of now es) []
-
 not_come : (now : ℕ) (a b : Expiry) → has_come now a ≡ false → before b a ≡ false → has_come now b ≡ false
 not_come now a b h k = grind (arith, nat_tests)
 
@@ -104,7 +94,7 @@ come_by now a es true e n rest = ap (λ (xs : List Expiry). a ∷ xs) rest
 come_by now a es false e n rest = sym (none_come now a es e n)
 
 -- in order, the expiries that have come stand first
-come_first : (now : ℕ) (es : List Expiry) → AreOrdered es → come_of now es ≡ filter (has_come now) es
+pub come_first : (now : ℕ) (es : List Expiry) → AreOrdered es → come_of now es ≡ filter (has_come now) es
 come_first now [] o = refl
 come_first now (a ∷ es) o = come_by now a es (has_come now a) refl o.0 (come_first now es o.1)
 
@@ -154,17 +144,50 @@ come_due now hs =
 pub due_things : (now : ℕ) (hs : List Hold) → map (λ token. txn_due token) (map (λ e. e.1) (come_of now (expiries hs))) ≡ map (λ item. item.thing) (txns_due (holdings_of hs) now)
 due_things now hs = things (come_of now (expiries hs)) ∙ ap (λ (items : List DueItem). map (λ item. item.thing) items) (come_due now hs)
 
--- whether the first one has come tells whether any has
-pub first_come : (now : ℕ) (es : List Expiry) (k : ℕ × ℕ) (token : List ℕ) → slice_get es 0 ≡ Some (k, token) → nat_le k.0 now ≡ not (is_quiet (map item_of (come_of now es)))
-first_come now [] k token e = cc
-first_come now (a ∷ es) k token e =
-    let one : a ≡ (k, token) = cc in
-    ap (λ (x : Expiry). nat_le x.0.0 now) (sym one) ∙ by (has_come now a)
-  where
-    by : (t : Bool) → t ≡ not (is_quiet (map item_of (cond t (a ∷ come_of now es) [])))
-    by true = refl
-    by false = refl
+-- the first of these has come
+abbrev pub first_has : ℕ → List Expiry → Bool
+first_has now [] = false
+first_has now (e ∷ es) = has_come now e
 
-pub no_first : (now : ℕ) (es : List Expiry) → (0 < length es → ⊥) → false ≡ not (is_quiet (map item_of (come_of now es)))
-no_first now [] h = refl
-no_first now (a ∷ es) h = absurd (h (omega arith))
+-- whether the first one has come tells whether any has
+pub first_due : (now : ℕ) (hs : List Hold) → first_has now (expiries hs) ≡ not (is_quiet (txns_due (holdings_of hs) now))
+first_due now hs = at (expiries hs) ∙ ap (λ (items : List DueItem). not (is_quiet items)) (come_due now hs)
+  where
+    by : (e : Expiry) (es : List Expiry) (t : Bool) → t ≡ not (is_quiet (map item_of (cond t (e ∷ come_of now es) [])))
+    by e es true = refl
+    by e es false = refl
+    at : (es : List Expiry) → first_has now es ≡ not (is_quiet (map item_of (come_of now es)))
+    at [] = refl
+    at (e ∷ es) = by e es (has_come now e)
+
+sooner : (now : ℕ) (x a : Expiry) → before x a ≡ true → has_come now x ≡ (has_come now x || has_come now a)
+sooner now x a h = grind (arith, nat_tests)
+
+later : (now : ℕ) (x a : Expiry) → before x a ≡ false → has_come now a ≡ (has_come now x || has_come now a)
+later now x a h = grind (arith, nat_tests)
+
+or_none : (b : Bool) → b ≡ (b || false)
+or_none true = refl
+or_none false = refl
+
+regroup : (x a rest : Bool) → ((x || a) || rest) ≡ (a || (x || rest))
+regroup true true rest = refl
+regroup true false rest = refl
+regroup false true rest = refl
+regroup false false rest = refl
+
+first_with : (now : ℕ) (es : List Expiry) (x : Expiry) → first_has now (with_expiry es x) ≡ (has_come now x || first_has now es)
+first_with now [] x = or_none (has_come now x)
+first_with now (a ∷ es) x = at (before x a) refl
+  where
+    at : (t : Bool) → before x a ≡ t → first_has now (cond t (x ∷ a ∷ es) (a ∷ with_expiry es x)) ≡ (has_come now x || has_come now a)
+    at true e = sooner now x a e
+    at false e = later now x a e
+
+-- the first of some put among others has come if the first of those has, or any of them
+pub first_fold : (now : ℕ) (acc xs : List Expiry) → first_has now (fold with_expiry acc xs) ≡ (first_has now acc || list_any (has_come now) xs)
+first_fold now acc [] = or_none (first_has now acc)
+first_fold now acc (x ∷ xs) =
+    first_fold now (with_expiry acc x) xs
+    ∙ ap (λ (b : Bool). b || list_any (has_come now) xs) (first_with now acc x)
+    ∙ regroup (has_come now x) (first_has now acc) (list_any (has_come now) xs)

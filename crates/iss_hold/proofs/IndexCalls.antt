@@ -3,7 +3,6 @@ use Rattle.std.proofs.Common.{◌≡◌, ℕ, ◌==◌, Bool, true, false, cond,
 use Rattle.std.proofs.lemmas.Bool.Decides.{nat_tests}
 use Rattle.std.specs.Prelude.{Option, Some, None, IsSome, is_some, unwrap_or}
 use Rattle.std.specs.declared.cmp.Ordering.{Ordering}
-use Rattle.std.specs.declared.cmp.Reverse.{Reverse}
 use Rattle.std.specs.declared.cmp.Ordering.TheVariants.{Less, Equal, Greater}
 use Rattle.std.specs.Ordering.{nat_cmp, ordering_then, is_eq}
 use Rattle.std.specs.Cmp.{unsigned_ties}
@@ -15,7 +14,7 @@ use Rattle.std.specs.Map.{lookup, remove_entry}
 use Rattle.std.proofs.lemmas.Option.{none-some}
 use Rattle.std.proofs.lemmas.Map.Text.{is_eq-slice_cmp}
 use Rattle.iss_model.proofs.Names.{one_name}
-use Rattle.iss_hold.specs.Indexes.{by_user, by_expiry, by_later}
+use Rattle.iss_hold.specs.Indexes.{by_user, by_expiry}
 use Rattle.iss_hold.specs.Sums.{sum_in}
 
 then_eq : (r s : Ordering) → is_eq (ordering_then r s) ≡ (is_eq r && is_eq s)
@@ -86,17 +85,17 @@ own_key a =
     itself n = grind (arith, nat_tests)
 
 -- an expiry that was entered and taken out again leaves all as it was
-pub left_again : (key : Reverse (ℕ × ℕ)) (place : ℕ) (es : List (Reverse (ℕ × ℕ) × ℕ)) → lookup (is_at (by_later key)) es ≡ None
-    → remove_entry (is_at (by_later key)) (insert_entry by_later es key place) ≡ es
-left_again key place [] none = ap (λ (b : Bool). cond b [] ((key, place) ∷ [])) (own_key key.0)
-left_again key place (e ∷ es) none = at (by_later key e.0) refl (left_again key place es)
+pub left_again : (key : ℕ × ℕ) (place : ℕ) (es : List ((ℕ × ℕ) × ℕ)) → lookup (is_at (by_expiry key)) es ≡ None
+    → remove_entry (is_at (by_expiry key)) (insert_entry by_expiry es key place) ≡ es
+left_again key place [] none = ap (λ (b : Bool). cond b [] ((key, place) ∷ [])) (own_key key)
+left_again key place (e ∷ es) none = at (by_expiry key e.0) refl (left_again key place es)
   where
-    at : (o : Ordering) → by_later key e.0 ≡ o → (lookup (is_at (by_later key)) es ≡ None → remove_entry (is_at (by_later key)) (insert_entry by_later es key place) ≡ es)
-        → remove_entry (is_at (by_later key)) (insert_entry by_later (e ∷ es) key place) ≡ e ∷ es
-    at Less is rest = rw is (ap (λ (b : Bool). cond b (e ∷ es) ((key, place) ∷ remove_entry (is_at (by_later key)) (e ∷ es))) (own_key key.0))
+    at : (o : Ordering) → by_expiry key e.0 ≡ o → (lookup (is_at (by_expiry key)) es ≡ None → remove_entry (is_at (by_expiry key)) (insert_entry by_expiry es key place) ≡ es)
+        → remove_entry (is_at (by_expiry key)) (insert_entry by_expiry (e ∷ es) key place) ≡ e ∷ es
+    at Less is rest = rw is (ap (λ (b : Bool). cond b (e ∷ es) ((key, place) ∷ remove_entry (is_at (by_expiry key)) (e ∷ es))) (own_key key))
     at Equal is rest =
         let first : Some e.1 ≡ None = rw is at none in
         absurd (none-some e.1 (sym first))
     at Greater is rest =
-        let next : lookup (is_at (by_later key)) es ≡ None = rw is at none in
-        rw (is, is) (ap (λ (xs : List (Reverse (ℕ × ℕ) × ℕ)). e ∷ xs) (rest next))
+        let next : lookup (is_at (by_expiry key)) es ≡ None = rw is at none in
+        rw (is, is) (ap (λ (xs : List ((ℕ × ℕ) × ℕ)). e ∷ xs) (rest next))

@@ -11,5 +11,8 @@ pub mod IndexesKept
 pub mod HoldCalls
 pub mod NamedExpiries
 pub mod Named
-pub mod Earliest
+pub mod Queued
+pub mod Placed
+pub mod ExpiriesKept
+pub mod Listed
 pub mod Restored

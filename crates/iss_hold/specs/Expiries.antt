@@ -1,5 +1,5 @@
 -- Which transactions expire, and in which order.
-use Rattle.std.specs.Prelude.{ℕ, nat_le, List, [], ◌∷◌, map, filter, fold, if◌then◌else◌}
+use Rattle.std.specs.Prelude.{ℕ, nat_le, Bool, List, [], ◌∷◌, map, filter, fold, if◌then◌else◌}
 use Rattle.iss_model.specs.rules.Due.{DueItem, txn_due, due_txn, is_before, items_with}
 use Rattle.iss_model.specs.state.Cores.{Holdings}
 use Rattle.iss_hold.specs.declared.hold.Hold.{Hold}
@@ -25,6 +25,24 @@ abbrev pub with_expiry : List Expiry → Expiry → List Expiry
 with_expiry [] e = e ∷ []
 with_expiry (first ∷ rest) e = if is_before (item_of e) (item_of first) then e ∷ first ∷ rest else first ∷ with_expiry rest e
 
+-- the expiries of the live ones of these holds
+abbrev pub live_ones : List Hold → List Expiry
+live_ones holds = map expiry_of (filter (λ hold. hold.live) holds)
+
 -- the expiries of the live transactions, in their order
 abbrev pub expiries : List Hold → List Expiry
-expiries holds = fold with_expiry [] (map expiry_of (filter (λ hold. hold.live) holds))
+expiries holds = fold with_expiry [] (live_ones holds)
+
+-- an expiry has come
+abbrev pub has_come : ℕ → Expiry → Bool
+has_come now e = nat_le e.0.0 now
+
+-- the first expiries, up to one that hasn't come
+abbrev pub come_of : ℕ → List Expiry → List Expiry
+come_of now [] = []
+come_of now (e ∷ es) = if has_come now e then e ∷ come_of now es else []
+
+-- the first holds, up to one whose expiry hasn't come
+abbrev pub holds_come : ℕ → List Hold → List Hold
+holds_come now [] = []
+holds_come now (hold ∷ holds) = if nat_le hold.txn.expires now then hold ∷ holds_come now holds else []

@@ -1,10 +1,11 @@
 -- How the indexes beside the holds agree with them.
-use Rattle.std.specs.Prelude.{◌≡◌, ℕ, suc, ◌+◌, ◌^◌, ◌<◌, nat_eq, Bool, ◌&&◌, ◌==◌, List, [], ◌∷◌, ◌++◌, map, slice_get, Option, Some, None, IsSome, unwrap_or, if◌then◌else◌}
+use Rattle.std.specs.Prelude.{◌≡◌, ℕ, suc, ◌+◌, ◌^◌, ◌<◌, nat_eq, Bool, true, ◌&&◌, ◌==◌, List, [], ◌∷◌, map, fold, slice_get, Option, Some, None, IsSome, unwrap_or, if◌then◌else◌}
 use Rattle.std.specs.Option.{option_map}
-use Rattle.std.specs.List.{IsDistinct}
+use Rattle.std.specs.List.{AllByRecursion, IsDistinct}
+use Rattle.std.specs.List.Sorted.{IsStrictlySortedBy}
 use Rattle.std.specs.Str.{bytes_eq}
 use Rattle.std.specs.declared.cmp.Ordering.{Ordering}
-use Rattle.std.specs.declared.cmp.Reverse.{Reverse}
+use Rattle.std.specs.declared.cmp.Ordering.TheVariants.{Less}
 use Rattle.std.specs.Ordering.{nat_cmp, ordering_then}
 use Rattle.std.specs.Cmp.Lexicographic.{slice_cmp}
 use Rattle.std.specs.BTreeMap as tree
@@ -14,7 +15,7 @@ use Rattle.iss_model.specs.rules.Activity.{txn_named}
 use Rattle.iss_hold.specs.declared.hold.Hold.{Hold}
 use Rattle.iss_hold.specs.declared.table.Table.{Table}
 use Rattle.iss_hold.specs.Holdings.{txn_of_hold, whole_of}
-use Rattle.iss_hold.specs.Expiries.{Expiry, expiries}
+use Rattle.iss_hold.specs.Expiries.{Expiry, live_ones, with_expiry, expiries}
 
 -- the tokens of the transactions, in the order in which they began
 abbrev pub names : List Hold → List (List ℕ)
@@ -45,15 +46,6 @@ by_user a b = ordering_then (slice_cmp nat_cmp a.0 b.0) (nat_cmp a.1 b.1)
 abbrev pub by_expiry : (ℕ × ℕ) → (ℕ × ℕ) → Ordering
 by_expiry a b = ordering_then (nat_cmp a.0 b.0) (nat_cmp a.1 b.1)
 
--- the tree's own order begins with the last expiry, so the place of a new one, which is mostly the last, is soon found
-abbrev pub by_later : Reverse (ℕ × ℕ) → Reverse (ℕ × ℕ) → Ordering
-by_later a b = by_expiry b.0 a.0
-
--- the entries of that tree, beginning with the first expiry
-abbrev pub earliest : List (Reverse (ℕ × ℕ) × ℕ) → List ((ℕ × ℕ) × ℕ)
-earliest [] = []
-earliest (e ∷ es) = earliest es ++ (e.0.0, e.1) ∷ []
-
 -- what a started transaction holds, and its place
 pub record IsAt (name : List ℕ) (holds : List Hold) (place : ℕ) (hold : Hold) : Type 0 where
   pub is_there : slice_get holds place ≡ Some hold
@@ -78,15 +70,49 @@ with_name names e = (e.0, slice_get names e.1)
 abbrev pub with_token : Expiry → (ℕ × ℕ) × Option (List ℕ)
 with_token e = (e.0, Some e.1)
 
+-- an expiry among those of a tree
+abbrev pub put_expiry : List Expiry → Expiry → List Expiry
+put_expiry es e = tree.insert_entry by_expiry es e.0 e.1
+
+-- when a hold's transaction expires, and its authorisation's record
+abbrev pub key_of : Hold → ℕ × ℕ
+key_of hold = (hold.txn.expires, hold.txn.origin)
+
+-- these holds stand at the places of the queue, and each expires after the one before it
+pub record AreQueued (holds : List Hold) (queue : List ℕ) (queued : List Hold) : Type 0 where
+  pub there : map (λ place. slice_get holds place) queue ≡ map (λ hold. Some hold) queued
+  pub rising : IsStrictlySortedBy by_expiry (map key_of queued)
+
+-- the tree has the places of these expiries, in their order
+pub record AreLate (holds : List Hold) (late : BTreeMap (ℕ × ℕ) ℕ) (others : List Expiry) : Type 0 where
+  pub named : map (with_name (names holds)) late.entries ≡ map with_token others
+  pub rising : tree.IsOrdered by_expiry late
+
+-- the expiries of the queue's live holds, each put among the late ones, are all expiries in their order
+pub record AreInOrder (holds : List Hold) (queue : List ℕ) (late : BTreeMap (ℕ × ℕ) ℕ) : Type 0 where
+  pub queued : List Hold
+  pub others : List Expiry
+  pub places : AreQueued holds queue queued
+  pub rest : AreLate holds late others
+  pub whole : expiries holds ≡ fold with_expiry others (live_ones queued)
+
+-- the first hold of the queue is live
+pub record BeginsLive (holds : List Hold) (queue : List ℕ) : Type 0 where
+  pub live : (place : ℕ) (hold : Hold) → slice_get queue 0 ≡ Some place → slice_get holds place ≡ Some hold → hold.live ≡ true
+
+-- an expiry comes after all that are in the queue
+pub record ComesLast (holds : List Hold) (queue : List ℕ) (key : ℕ × ℕ) : Type 0 where
+  pub after : (queued : List Hold) → AreQueued holds queue queued → AllByRecursion (λ k. by_expiry k key ≡ Less) (map key_of queued)
+
 -- The indexes agree with the holds. Each name has its place, and each user its sum. The expiries are in order, each with its transaction's place.
-pub record AreIndexed (holds : List Hold) (places : List (List ℕ)) (sums : BTreeMap (List ℕ × ℕ) ℕ) (order : BTreeMap (Reverse (ℕ × ℕ)) ℕ) : Type 0 where
+pub record AreIndexed (holds : List Hold) (places : List (List ℕ)) (sums : BTreeMap (List ℕ × ℕ) ℕ) (queue : List ℕ) (late : BTreeMap (ℕ × ℕ) ℕ) : Type 0 where
   pub distinct : IsDistinct bytes_eq (names holds)
   pub placed : ArePlaced holds places
   pub summed : AreSummed holds sums
   pub once : IsDistinct nat_eq (origins holds)
-  pub ordered : map (with_name (names holds)) (earliest order.entries) ≡ map with_token (expiries holds)
-  pub rising : tree.IsOrdered by_later order
+  pub ordered : AreInOrder holds queue late
+  pub first : BeginsLive holds queue
 
 -- a table's indexes agree with its holds
 abbrev pub IsIndexed : Table → Type 0
-IsIndexed table = AreIndexed table.holds (names table.holds) table.sums table.order
+IsIndexed table = AreIndexed table.holds (names table.holds) table.sums table.expiries.places.items table.expiries.late

@@ -20,6 +20,7 @@ ghost use Rattle.iss_hold.specs.Restoring.{with_carried};
 use crate::hold::{Hold, Taken};
 use crate::indexes::{sum_of, user_key};
 use crate::list::HoldList;
+use crate::queue::ExpiryQueue;
 use crate::table::Table;
 use iss_model::{Currency, Part, Token, Txn, TxnSums};
 use std::alloc::{AllocError, Global};
@@ -59,7 +60,7 @@ impl Holds {
             table: Table {
                 holds: HoldList::new(alloc),
                 sums: BTreeMap::new(alloc),
-                order: BTreeMap::new(alloc),
+                expiries: ExpiryQueue::new(alloc),
             },
         })
     }
@@ -72,7 +73,7 @@ impl Holds {
             table: Table {
                 holds: HoldList::with_room(alloc, count)?,
                 sums: BTreeMap::new(alloc),
-                order: BTreeMap::new(alloc),
+                expiries: ExpiryQueue::new(alloc),
             },
         })
     }
@@ -242,10 +243,7 @@ impl Holds {
     pub fn is_due(&self, now: u64) -> bool
         ensures { result ≡ not (is_quiet (txns_due self.now now)) }
     {
-        match self.table.order.last_key_value() {
-            Some((expiry, _)) => expiry.0.0 <= now,
-            None => false,
-        }
+        self.table.expiries.is_due(&self.table.holds, now)
     }
 
     /// The live transactions whose expiry has come, by expiry and then by the number of the authorisation's record.

@@ -1,16 +1,12 @@
-//! The indexes beside the holds: sums by user and currency, and expiries in their order.
+//! The sums by user and currency, beside the holds.
 ghost use Rattle.std.specs.Prelude.{◌≡◌, ◌≤◌, ◌<◌, ◌+◌, ◌-◌, ◌^◌, ℕ, List, [], ◌∷◌, ◌++◌, Some, None, IsSome, IfOk, OnOk, OnErr};
 ghost use Rattle.std.specs.BTreeMap as tree;
 ghost use Rattle.iss_model.specs.Currencies.{iso_number};
-ghost use Rattle.iss_hold.specs.Holdings.{begun};
-ghost use Rattle.iss_hold.specs.Indexes.{by_user, by_later, names};
-ghost use Rattle.iss_index.specs.Places.{place_of};
+ghost use Rattle.iss_hold.specs.Indexes.{by_user};
 ghost use Rattle.iss_hold.specs.Sums.{sum_in};
 
-use crate::list::HoldList;
-use iss_model::{Currency, Token, Txn};
+use iss_model::{Currency, Token};
 use std::alloc::AllocError;
-use std::cmp::Reverse;
 use std::collections::BTreeMap;
 
 /// A user and the number of a currency.
@@ -64,28 +60,4 @@ pub(crate) fn place_after(count: usize) -> Result<u32, AllocError>
     ensures { IfOk result (λ place. place ≡ count) }
 {
     u32::try_from(count).map_err(|_| AllocError)
-}
-
-/// Adds the hold of a transaction that begins, and enters its place by its expiry, or neither if an allocation fails.
-pub(crate) fn enter(
-    holds: &mut HoldList,
-    order: &mut BTreeMap<Reverse<(u64, u32)>, u32>,
-    txn: &Txn,
-    place: u32,
-) -> Result<(), AllocError>
-    requires unknown { place_of txn.now.token (names holds.old) ≡ None }
-    requires unordered { tree.get by_later order.old (record { 0 = (txn.now.expires, txn.now.origin) }) ≡ None }
-    ensures added { OnOk result (holds.new ≡ holds.old ++ begun txn.now ∷ []) }
-    ensures entered { OnOk result (order.new.entries ≡ tree.insert_entry by_later order.old.entries (record { 0 = (txn.now.expires, txn.now.origin) }) place) }
-    ensures rising { tree.IsOrdered by_later order.old → tree.IsOrdered by_later order.new }
-    ensures holds_stay { OnErr result (holds.new ≡ holds.old) }
-    ensures order_stays { OnErr result (order.new.entries ≡ order.old.entries) }
-{
-    let expiry = Reverse((txn.expires, txn.origin));
-    order.insert(expiry, place)?;
-    let Ok(()) = holds.add(txn) else {
-        order.remove(&expiry);
-        return Err(AllocError);
-    };
-    Ok(())
 }

@@ -10,6 +10,7 @@ mod hold;
 mod holds;
 mod indexes;
 mod list;
+mod queue;
 mod table;
 
 pub use hold::{Hold, Taken};

@@ -4,7 +4,7 @@ ghost use Rattle.std.specs.Option.{option_map};
 ghost use Rattle.iss_index.specs.Places.{place_of};
 ghost use Rattle.iss_hold.specs.declared.hold.Hold.{Hold};
 ghost use Rattle.iss_hold.specs.Holdings.{begun, whole_of};
-ghost use Rattle.iss_hold.specs.Indexes.{names};
+ghost use Rattle.iss_hold.specs.Indexes.{names, key_of};
 ghost use Rattle.iss_hold.specs.Named.{hold_in, IsNamed, IsGrown};
 
 use crate::hold::Hold;
@@ -113,6 +113,23 @@ impl HoldList {
     {
         let row = &self.rows[place];
         row.g + row.p + row.s
+    }
+
+    /// When the transaction at a place expires, and the number of its authorisation's record.
+    pub(crate) fn expiry_at(&self, place: usize) -> (u64, u32)
+        requires { place < length self.now }
+        ensures { option_map key_of (slice_get self.now place) ≡ Some result }
+    {
+        let row = &self.rows[place];
+        (row.expires, row.origin)
+    }
+
+    /// Whether the transaction at a place hasn't ended.
+    pub(crate) fn is_live_at(&self, place: usize) -> bool
+        requires { place < length self.now }
+        ensures { option_map (λ hold. hold.live) (slice_get self.now place) ≡ Some result }
+    {
+        self.rows[place].live
     }
 
     /// Adds the hold of a transaction that begins. If an allocation fails, all stays as it was.

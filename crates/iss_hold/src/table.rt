@@ -11,11 +11,11 @@ ghost use Rattle.iss_hold.specs.Indexes.{total_of, IsAt, IsIndexed};
 ghost use Rattle.iss_hold.specs.Restoring.{hold_with, live_with};
 
 use crate::hold::Hold;
-use crate::indexes::{begin_sum, change_sum, enter, place_after, user_key};
+use crate::indexes::{begin_sum, change_sum, place_after, user_key};
 use crate::list::HoldList;
+use crate::queue::ExpiryQueue;
 use iss_model::{Token, Txn, TxnSums};
 use std::alloc::{AllocError, Global};
-use std::cmp::Reverse;
 use std::collections::BTreeMap;
 
 /// What the transactions hold, in the order in which they began, with the sums of their users and the places of the live
@@ -24,7 +24,7 @@ use std::collections::BTreeMap;
 pub(crate) struct Table {
     pub(crate) holds: HoldList,
     pub(crate) sums: BTreeMap<(Token, u16), u64>,
-    pub(crate) order: BTreeMap<Reverse<(u64, u32)>, u32>,
+    pub(crate) expiries: ExpiryQueue,
 }
 
 impl Table {
@@ -68,8 +68,7 @@ impl Table {
     {
         let place = place_after(self.holds.len())?;
         begin_sum(&mut self.sums, user_key(&txn.user, txn.currency))?;
-        enter(&mut self.holds, &mut self.order, txn, place)?;
-        Ok(())
+        self.expiries.start(&mut self.holds, txn, place)
     }
 
     /// Ends the transaction at a place.
@@ -79,9 +78,10 @@ impl Table {
         ensures indexed { IsIndexed self.new }
         ensures ended { self.new.holds ≡ set self.old.holds place (record (hold.now) { live = false }) }
     {
-        let expiry = Reverse((hold.txn.expires, hold.txn.origin));
-        self.order.remove(&expiry);
+        let expiry = (hold.txn.expires, hold.txn.origin);
+        self.expiries.late.remove(&expiry);
         self.holds.put(place, &hold.ended());
+        self.expiries.drop_ended(&self.holds);
     }
 
     /// Takes a transaction up again with what it holds. If an allocation fails, the holds stay as they were.
@@ -110,14 +110,7 @@ impl Table {
         requires { IsIndexed self.now }
         ensures { IfOk result (λ v. map (λ token. txn_due token) v.items ≡ map (λ item. item.thing) (txns_due (holdings_of self.now.holds) now)) }
     {
-        let mut due = Vec::new(alloc);
-        for (expiry, place) in self.order.iter().rev() {
-            if expiry.0.0 > now {
-                break;
-            }
-            due.push(self.holds.at(*place as usize).txn.token)?;
-        }
-        Ok(due)
+        self.expiries.due(&self.holds, alloc, now)
     }
 }
 

@@ -56,7 +56,7 @@ put-requires c =
 pub returns-clause-indexed : goal.returns-clause-indexed
 returns-clause-indexed c =
     let s = stood c.args.self.now.holds c.args.place c.args.hold c.requires.same in
-    subst (λ (hs : List Hold). AreIndexed hs (names hs) c.change_sum.new.sums c.args.self.now.order) (sym c.put.ensures)
+    subst (λ (hs : List Hold). AreIndexed hs (names hs) c.change_sum.new.sums c.args.self.now.expiries.places.items c.args.self.now.expiries.late) (sym c.put.ensures)
     (indexed_own
     (indexed_set c.requires.indexed s
     (summed_after c.requires.indexed.summed s c.user_key-user.ensures c.change_sum.ensures (held_there c.requires.indexed.summed s c.whole_at-before.ensures) c.whole.ensures c.requires.low)))
