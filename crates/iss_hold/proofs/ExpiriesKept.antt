@@ -1,6 +1,6 @@
 -- The queue and the tree are in order after each change.
-use Rattle.std.proofs.Common.{◌≡◌, ℕ, zero, suc, nat_eq, ◌==◌, ◌<◌, Bool, true, false, cond, List, [], ◌∷◌, ◌++◌, map, fold, filter, length, set, refl, sym, ap, ◌∙◌, subst, arith}
-use Rattle.std.specs.Prelude.{Option, Some, None, slice_get, Result, Ok, Err, OnOk, OnErr}
+use Rattle.std.proofs.Common.{◌≡◌, ℕ, zero, suc, nat_eq, ◌==◌, Bool, true, false, cond, List, [], ◌∷◌, ◌++◌, map, fold, filter, length, set, refl, sym, ap, ◌∙◌, subst}
+use Rattle.std.specs.Prelude.{Some, None, slice_get, Result, Ok, Err, OnOk, OnErr}
 use Rattle.std.specs.List.{IsDistinct, list_any, AllByRecursion}
 use Rattle.std.specs.List.Sorted.{IsStrictlySortedBy}
 use Rattle.std.specs.BTreeMap as tree
@@ -10,7 +10,7 @@ use Rattle.iss_model.specs.declared.txn.Txn.{Txn}
 use Rattle.iss_hold.specs.declared.hold.Hold.{Hold}
 use Rattle.iss_hold.specs.Holdings.{begun, txn_of_hold}
 use Rattle.iss_hold.specs.Expiries.{Expiry, expiry_of, live_ones, with_expiry, expiries}
-use Rattle.iss_hold.specs.Indexes.{names, origins, by_expiry, with_name, with_token, key_of, AreQueued, AreLate, AreInOrder, BeginsLive, ComesLast}
+use Rattle.iss_hold.specs.Indexes.{names, origins, by_expiry, with_name, key_of, AreQueued, AreLate, AreInOrder, BeginsLive, ComesLast}
 use Rattle.iss_hold.proofs.IndexCalls.{other_key}
 use Rattle.iss_hold.proofs.HoldSums.{map_set}
 use Rattle.iss_hold.proofs.ExpiryOrder.{filter_fold}
@@ -104,6 +104,7 @@ begins_pushed {hs} {queue} t b queued a = record { live = by queue queued a.ther
     last : (ks : List Hold) → slice_get (ks ++ begun t ∷ []) (length ks) ≡ Some (begun t)
     last [] = refl
     last (k ∷ ks) = last ks
+
     by : (queue : List ℕ) (ks : List Hold) → map (λ p. slice_get hs p) queue ≡ map (λ k. Some k) ks
         → ((place : ℕ) (hold : Hold) → slice_get queue 0 ≡ Some place → slice_get hs place ≡ Some hold → hold.live ≡ true)
         → (place : ℕ) (hold : Hold) → slice_get (queue ++ length hs ∷ []) 0 ≡ Some place → slice_get (hs ++ begun t ∷ []) place ≡ Some hold → hold.live ≡ true

@@ -156,6 +156,7 @@ first_due now hs = at (expiries hs) ∙ ap (λ (items : List DueItem). not (is_q
     by : (e : Expiry) (es : List Expiry) (t : Bool) → t ≡ not (is_quiet (map item_of (cond t (e ∷ come_of now es) [])))
     by e es true = refl
     by e es false = refl
+
     at : (es : List Expiry) → first_has now es ≡ not (is_quiet (map item_of (come_of now es)))
     at [] = refl
     at (e ∷ es) = by e es (has_come now e)

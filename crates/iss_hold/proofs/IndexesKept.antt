@@ -1,26 +1,23 @@
 -- The indexes agree with the holds after each change.
-use Rattle.std.proofs.Common.{◌≡◌, ℕ, zero, suc, ◌<◌, ◌^◌, nat_eq, ◌==◌, Bool, true, false, cond, ◌||◌, List, [], ◌∷◌, ◌++◌, map, fold, filter, length, set, refl, sym, ap, ◌∙◌, subst, arith}
+use Rattle.std.proofs.Common.{◌≡◌, ℕ, zero, suc, ◌<◌, ◌^◌, nat_eq, ◌==◌, Bool, false, ◌||◌, List, [], ◌∷◌, ◌++◌, map, set, refl, sym, ap, ◌∙◌, subst, arith}
 use Rattle.std.specs.Prelude.{Option, Some, None, IsSome, is_some, slice_get, unwrap_or, Result, Ok, Err, OnOk, OnErr}
-use Rattle.std.specs.List.{IsDistinct, list_any, AllByRecursion}
+use Rattle.std.specs.List.{IsDistinct, list_any}
 use Rattle.std.specs.Cmp.{nat_eq_equiv}
 use Rattle.std.specs.Cmp.Lexicographic.{nat_list_eq_equiv}
 use Rattle.std.specs.Str.{bytes_eq}
 use Rattle.std.specs.BTreeMap as tree
-use Rattle.std.specs.BTreeMap.{BTreeMap, is_at, insert_entry}
-use Rattle.std.specs.Map.{lookup, remove_entry, keys_of}
-use Rattle.std.specs.List.Sorted.{IsStrictlySortedBy}
+use Rattle.std.specs.BTreeMap.{BTreeMap, is_at}
+use Rattle.std.specs.Map.{lookup}
 use Rattle.std.proofs.lemmas.Map.Keys.{IsDistinct-push}
 use Rattle.iss_model.specs.declared.txn.Txn.{Txn}
 use Rattle.iss_model.specs.rules.Activity.{TxnNow, txn_named}
-use Rattle.iss_model.specs.rules.Due.{is_before}
 use Rattle.iss_model.specs.Currencies.{iso_number}
 use Rattle.iss_index.specs.Places.{place_of}
 use Rattle.iss_hold.specs.declared.hold.Hold.{Hold}
 use Rattle.iss_hold.specs.Holdings.{begun, txn_of_hold}
-use Rattle.iss_hold.specs.Expiries.{Expiry, expiry_of, item_of, with_expiry, expiries}
 use Rattle.iss_hold.specs.Indexes.{names, origins, place_in, total_of, by_user, by_expiry, AreSummed, AreIndexed, AreInOrder, BeginsLive}
 use Rattle.iss_hold.specs.Sums.{sum_in}
-use Rattle.iss_hold.proofs.IndexCalls.{none_some, other_key}
+use Rattle.iss_hold.proofs.IndexCalls.{none_some}
 use Rattle.iss_hold.proofs.HoldSums.{map_set}
 use Rattle.iss_hold.proofs.HoldTotals.{total_set, total_more}
 use Rattle.iss_hold.proofs.Changes.{there_or_set}
@@ -36,10 +33,6 @@ there_or_last P [] h all own zero k e = let same : h ≡ k = cc in subst P same 
 there_or_last P [] h all own (suc i) k e = cc
 there_or_last P (x ∷ hs) h all own zero k e = all zero k e
 there_or_last P (x ∷ hs) h all own (suc i) k e = there_or_last P hs h (λ j y f. all (suc j) y f) own i k e
-
-length_map : {A B : Type 0} (f : A → B) (xs : List A) → length (map f xs) ≡ length xs
-length_map f [] = refl
-length_map f (a ∷ xs) = ap suc (length_map f xs)
 
 no_origin : (number : ℕ) (hs : List Hold) → list_any (λ t. number == t.txn.origin) (map txn_of_hold hs) ≡ list_any (nat_eq number) (origins hs)
 no_origin number [] = refl

@@ -119,9 +119,6 @@ queue_place hs p left (k ∷ rest) e = let first : slice_get hs p ≡ Some k = c
 pub taken_place : {hs : List Hold} {now p : ℕ} {left : List ℕ} {listed all : List Expiry} → AreTaken hs now (p ∷ left) listed all → p < length hs
 taken_place {hs} {now} {p} {left} {listed} {all} a = queue_place hs p left a.rest a.there
 
-pub queued_place : {hs : List Hold} {p : ℕ} {left : List ℕ} {queued : List Hold} → AreQueued hs (p ∷ left) queued → p < length hs
-queued_place {hs} {p} {left} {queued} a = queue_place hs p left queued a.there
-
 taken_by : (hs : List Hold) (now p : ℕ) (left : List ℕ) (listed all : List Expiry) (h : Hold) (rest : List Hold) → map (λ q. slice_get hs q) (p ∷ left) ≡ map (λ k. Some k) rest
     → fold put_expiry listed (live_ones (holds_come now rest)) ≡ all → slice_get hs p ≡ Some h → nat_le h.txn.expires now ≡ true
     → AreTaken hs now left (cond h.live (put_expiry listed (expiry_of h)) listed) all
@@ -237,8 +234,8 @@ pub after_last : (hs : List Hold) (queue : List ℕ) (i p : ℕ) (key last : ℕ
 after_last hs queue i p key last len at is less =
     record {
       after = λ queued a.
-        all_before queued i key last a.rising (len ∙ even hs queue queued a.there)
-        (ap (λ (o : Option Hold). option_map key_of o) (sym (there_at hs queue queued i p a.there at)) ∙ is) less
+          all_before queued i key last a.rising (len ∙ even hs queue queued a.there)
+          (ap (λ (o : Option Hold). option_map key_of o) (sym (there_at hs queue queued i p a.there at)) ∙ is) less;
     }
 
 any_by : (now : ℕ) (hs : List Hold) (queue : List ℕ) (p : ℕ) (key : ℕ × ℕ) (queued : List Hold) → map (λ q. slice_get hs q) queue ≡ map (λ k. Some k) queued → IsStrictlySortedBy by_expiry (map key_of queued)

@@ -9,9 +9,8 @@ use Rattle.std.specs.declared.cmp.Ordering.TheVariants.{Less, Equal, Greater}
 use Rattle.std.specs.Ordering.{ordering_then, ordering_reverse, match_ordering}
 use Rattle.std.specs.Map.{keys_of}
 use Rattle.std.specs.BTreeMap.{insert_entry}
-use Rattle.iss_model.specs.rules.Due.{is_before}
 use Rattle.iss_hold.specs.declared.hold.Hold.{Hold}
-use Rattle.iss_hold.specs.Expiries.{Expiry, expiry_of, item_of, with_expiry, live_ones, expiries, has_come, come_of, holds_come}
+use Rattle.iss_hold.specs.Expiries.{Expiry, expiry_of, with_expiry, live_ones, expiries, has_come, come_of, holds_come}
 use Rattle.iss_hold.specs.Indexes.{origins, by_expiry, key_of, put_expiry}
 use Rattle.iss_hold.proofs.ExpiryOrder.{before, NoneBefore, AreOrdered, expiries_ordered, filter_fold, come_first}
 use Rattle.iss_hold.proofs.Beginnings.{NoneOf, none_with, inserted}
@@ -200,6 +199,7 @@ put_come now acc (x ∷ xs) o = at (has_come now x) (put_come now (acc ++ x ∷ 
   where
     more : acc ++ x ∷ xs ≡ (acc ++ x ∷ []) ++ xs
     more = sym (append_assoc acc (x ∷ []) xs)
+
     at : (t : Bool) → (IsStrictlySortedBy by_expiry (keys_of ((acc ++ x ∷ []) ++ xs)) → fold put_expiry (acc ++ x ∷ []) (come_of now xs) ≡ (acc ++ x ∷ []) ++ come_of now xs)
         → fold put_expiry acc (cond t (x ∷ come_of now xs) []) ≡ acc ++ cond t (x ∷ come_of now xs) []
     at true rest =
@@ -219,6 +219,7 @@ none_yet now h (k ∷ hs) e all = at k.live (none_yet now h hs e all.1)
   where
     late : has_come now (expiry_of k) ≡ false
     late = not_yet now (key_of h) (key_of k) (is_less (key_of h) (key_of k) all.0) e
+
     at : (t : Bool) → filter (has_come now) (live_ones hs) ≡ [] → filter (has_come now) (map expiry_of (cond t (k ∷ filter (λ x. x.live) hs) (filter (λ x. x.live) hs))) ≡ []
     at true rest = ap (λ (b : Bool). cond b (expiry_of k ∷ filter (has_come now) (live_ones hs)) (filter (has_come now) (live_ones hs))) late ∙ rest
     at false rest = rest
@@ -229,6 +230,7 @@ none_any now h (k ∷ hs) e all = at k.live (none_any now h hs e all.1)
   where
     late : has_come now (expiry_of k) ≡ false
     late = not_yet now (key_of h) (key_of k) (is_less (key_of h) (key_of k) all.0) e
+
     at : (t : Bool) → list_any (has_come now) (live_ones hs) ≡ false → list_any (has_come now) (map expiry_of (cond t (k ∷ filter (λ x. x.live) hs) (filter (λ x. x.live) hs))) ≡ false
     at true rest = ap₂ (λ (a b : Bool). a || b) late rest
     at false rest = rest
@@ -243,12 +245,15 @@ queue_come now (h ∷ hs) o = at (nat_le h.txn.expires now) refl (queue_come now
         ≡ cond t (expiry_of h ∷ filter (has_come now) (live_ones hs)) (filter (has_come now) (live_ones hs))
     among true e = ap (λ (b : Bool). cond b (expiry_of h ∷ filter (has_come now) (live_ones hs)) (filter (has_come now) (live_ones hs))) e
     among false e = refl
+
     then_by : (t : Bool) → cond t (expiry_of h ∷ live_ones (holds_come now hs)) (live_ones (holds_come now hs)) ≡ map expiry_of (cond t (h ∷ filter (λ x. x.live) (holds_come now hs)) (filter (λ x. x.live) (holds_come now hs)))
     then_by true = refl
     then_by false = refl
+
     none_by : (t : Bool) → has_come now (expiry_of h) ≡ false → filter (has_come now) (live_ones hs) ≡ [] → filter (has_come now) (map expiry_of (cond t (h ∷ filter (λ x. x.live) hs) (filter (λ x. x.live) hs))) ≡ []
     none_by true e rest = ap (λ (b : Bool). cond b (expiry_of h ∷ filter (has_come now) (live_ones hs)) (filter (has_come now) (live_ones hs))) e ∙ rest
     none_by false e rest = rest
+
     at : (t : Bool) → nat_le h.txn.expires now ≡ t → filter (has_come now) (live_ones hs) ≡ live_ones (holds_come now hs)
         → filter (has_come now) (live_ones (h ∷ hs)) ≡ live_ones (cond t (h ∷ holds_come now hs) [])
     at true e rest = among h.live e ∙ ap (λ (es : List Expiry). cond h.live (expiry_of h ∷ es) es) rest ∙ then_by h.live

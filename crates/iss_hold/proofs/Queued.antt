@@ -1,20 +1,16 @@
 -- Holds at the places of a queue.
-use Rattle.std.proofs.Common.{◌≡◌, ℕ, zero, suc, nat_le, nat_eq, ◌==◌, ◌<◌, ◌-◌, Bool, true, false, cond, not, ◌||◌, List, [], ◌∷◌, ◌++◌, map, filter, length, set, refl, sym, ap, ap₂, ◌∙◌, subst, arith}
-use Rattle.std.proofs.lemmas.Bool.Decides.{nat_tests}
-use Rattle.std.proofs.lemmas.Option.{slice_get_within}
+use Rattle.std.proofs.Common.{◌≡◌, ℕ, zero, suc, nat_eq, ◌==◌, Bool, true, false, cond, not, List, [], ◌∷◌, ◌++◌, map, filter, length, set, refl, sym, ap, ap₂, ◌∙◌, subst}
 use Rattle.std.specs.Prelude.{Option, Some, slice_get}
-use Rattle.std.specs.Option.{option_map}
-use Rattle.std.specs.List.{AllByRecursion, IsDistinct, list_any}
+use Rattle.std.specs.List.{AllByRecursion, IsDistinct}
 use Rattle.std.specs.List.Sorted.{IsStrictlySortedBy}
 use Rattle.std.specs.declared.cmp.Ordering.{Ordering}
-use Rattle.std.specs.declared.cmp.Ordering.TheVariants.{Less, Equal, Greater}
-use Rattle.std.specs.Ordering.{ordering_then, is_eq}
+use Rattle.std.specs.declared.cmp.Ordering.TheVariants.{Less}
+use Rattle.std.specs.Ordering.{is_eq}
 use Rattle.std.specs.Cmp.{tied_itself}
-use Rattle.std.specs.BTreeMap.{is_at}
 use Rattle.iss_model.specs.declared.txn.Txn.{Txn}
 use Rattle.iss_hold.specs.declared.hold.Hold.{Hold}
 use Rattle.iss_hold.specs.Holdings.{begun}
-use Rattle.iss_hold.specs.Expiries.{Expiry, expiry_of, live_ones, has_come, holds_come}
+use Rattle.iss_hold.specs.Expiries.{Expiry, expiry_of, live_ones}
 use Rattle.iss_hold.specs.Indexes.{origins, by_expiry, key_of, AreQueued}
 use Rattle.iss_hold.proofs.Beginnings.{map_push, filter_push}
 use Rattle.iss_hold.proofs.Endings.{ended, other_than, by_expiry_total, apart, other_way, number_at}
@@ -181,15 +177,18 @@ ones_end hs i h at d (p ∷ queue) (x ∷ ks) e =
     taken true true f = cc
     taken true false f = refl
     taken false c f = refl
+
     stays : (b c : Bool) → c ≡ true → cond b (expiry_of x ∷ filter (other_than (key_of h)) (live_ones ks)) (filter (other_than (key_of h)) (live_ones ks))
         ≡ cond b (cond c (expiry_of x ∷ filter (other_than (key_of h)) (live_ones ks)) (filter (other_than (key_of h)) (live_ones ks))) (filter (other_than (key_of h)) (live_ones ks))
     stays true true f = refl
     stays true false f = cc
     stays false c f = refl
+
     among : (b : Bool) → cond b (cond (other_than (key_of h) (expiry_of x)) (expiry_of x ∷ filter (other_than (key_of h)) (live_ones ks)) (filter (other_than (key_of h)) (live_ones ks))) (filter (other_than (key_of h)) (live_ones ks))
         ≡ filter (other_than (key_of h)) (map expiry_of (cond b (x ∷ filter (λ k. k.live) ks) (filter (λ k. k.live) ks)))
     among true = refl
     among false = refl
+
     own : (b : Bool) → is_place p i ≡ b → slice_get hs p ≡ Some x → live_ones (queued_set i (ended h) queue ks) ≡ filter (other_than (key_of h)) (live_ones ks)
         → live_ones (cond b (ended h) x ∷ queued_set i (ended h) queue ks) ≡ filter (other_than (key_of h)) (live_ones (x ∷ ks))
     own true same there rest =

@@ -1,5 +1,5 @@
 -- How far the sums of holdings reach.
-use Rattle.std.specs.Prelude.{ℕ, ℤ, pos, ◌<ℤ◌, ◌^◌, List}
+use Rattle.std.specs.Prelude.{ℕ, pos, ◌<ℤ◌, ◌^◌, List}
 use Rattle.iss_model.specs.state.Kept.{Kept, kept_at}
 
 -- each sum is below 2^62

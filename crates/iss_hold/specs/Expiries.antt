@@ -1,5 +1,5 @@
 -- Which transactions expire, and in which order.
-use Rattle.std.specs.Prelude.{ℕ, nat_le, Bool, List, [], ◌∷◌, map, filter, fold, if◌then◌else◌}
+use Rattle.std.specs.Prelude.{◌≡◌, ℕ, nat_le, Bool, List, [], ◌∷◌, map, filter, fold, if◌then◌else◌}
 use Rattle.iss_model.specs.rules.Due.{DueItem, txn_due, due_txn, is_before, items_with}
 use Rattle.iss_model.specs.state.Cores.{Holdings}
 use Rattle.iss_hold.specs.declared.hold.Hold.{Hold}
@@ -7,6 +7,10 @@ use Rattle.iss_hold.specs.declared.hold.Hold.{Hold}
 -- the live transactions whose expiry has come, by expiry and the number of the authorisation's record
 abbrev pub txns_due : Holdings → ℕ → List DueItem
 txns_due h now = fold items_with [] (filter (λ item. nat_le item.since now) (map due_txn (filter (λ t. t.live) h.txns)))
+
+-- these are the tokens of the transactions that are due
+abbrev pub AreDue : Holdings → ℕ → List (List ℕ) → Type 0
+AreDue h now tokens = map (λ token. txn_due token) tokens ≡ map (λ item. item.thing) (txns_due h now)
 
 -- a transaction's expiry and its authorisation's record, with its token
 abbrev pub Expiry : Type 0

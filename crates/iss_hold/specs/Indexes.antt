@@ -1,7 +1,7 @@
 -- How the indexes beside the holds agree with them.
 use Rattle.std.specs.Prelude.{◌≡◌, ℕ, suc, ◌+◌, ◌^◌, ◌<◌, nat_eq, Bool, true, ◌&&◌, ◌==◌, List, [], ◌∷◌, map, fold, slice_get, Option, Some, None, IsSome, unwrap_or, if◌then◌else◌}
 use Rattle.std.specs.Option.{option_map}
-use Rattle.std.specs.List.{AllByRecursion, IsDistinct}
+use Rattle.std.specs.List.{AllByRecursion, IsDistinct, list_any}
 use Rattle.std.specs.List.Sorted.{IsStrictlySortedBy}
 use Rattle.std.specs.Str.{bytes_eq}
 use Rattle.std.specs.declared.cmp.Ordering.{Ordering}
@@ -15,7 +15,7 @@ use Rattle.iss_model.specs.rules.Activity.{txn_named}
 use Rattle.iss_hold.specs.declared.hold.Hold.{Hold}
 use Rattle.iss_hold.specs.declared.table.Table.{Table}
 use Rattle.iss_hold.specs.Holdings.{txn_of_hold, whole_of}
-use Rattle.iss_hold.specs.Expiries.{Expiry, live_ones, with_expiry, expiries}
+use Rattle.iss_hold.specs.Expiries.{Expiry, live_ones, with_expiry, expiries, has_come, come_of, holds_come}
 
 -- the tokens of the transactions, in the order in which they began
 abbrev pub names : List Hold → List (List ℕ)
@@ -103,6 +103,18 @@ pub record BeginsLive (holds : List Hold) (queue : List ℕ) : Type 0 where
 -- an expiry comes after all that are in the queue
 pub record ComesLast (holds : List Hold) (queue : List ℕ) (key : ℕ × ℕ) : Type 0 where
   pub after : (queued : List Hold) → AreQueued holds queue queued → AllByRecursion (λ k. by_expiry k key ≡ Less) (map key_of queued)
+
+-- these are the late ones that have come
+abbrev pub AreLateDue : List Hold → BTreeMap (ℕ × ℕ) ℕ → ℕ → List Expiry → Type 0
+AreLateDue holds late now due = (others : List Expiry) → AreLate holds late others → due ≡ fold put_expiry [] (come_of now others)
+
+-- the live ones of the queue that have come are added to those that are due
+abbrev pub AddsQueued : List Hold → List ℕ → ℕ → List Expiry → List Expiry → Type 0
+AddsQueued holds queue now before after = (queued : List Hold) → AreQueued holds queue queued → after ≡ fold put_expiry before (live_ones (holds_come now queued))
+
+-- the answer is whether a live one of the queue has come
+abbrev pub TellsQueued : List Hold → List ℕ → ℕ → Bool → Type 0
+TellsQueued holds queue now answer = (queued : List Hold) → AreQueued holds queue queued → answer ≡ list_any (has_come now) (live_ones queued)
 
 -- The indexes agree with the holds. Each name has its place, and each user its sum. The expiries are in order, each with its transaction's place.
 pub record AreIndexed (holds : List Hold) (places : List (List ℕ)) (sums : BTreeMap (List ℕ × ℕ) ℕ) (queue : List ℕ) (late : BTreeMap (ℕ × ℕ) ℕ) : Type 0 where

@@ -1,5 +1,5 @@
 -- A transaction that is taken up again with what it holds.
-use Rattle.std.specs.Prelude.{true, List, [], ◌∷◌, ◌++◌}
+use Rattle.std.specs.Prelude.{true, [], ◌∷◌, ◌++◌}
 use Rattle.iss_model.specs.declared.state.TxnSums.{TxnSums}
 use Rattle.iss_model.specs.declared.txn.Txn.{Txn}
 use Rattle.iss_model.specs.state.Kept.{after_changes}

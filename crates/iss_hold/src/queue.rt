@@ -1,15 +1,14 @@
 //! The live holds by expiry.
-ghost use Rattle.std.specs.Prelude.{◌≡◌, ◌∷◌, ◌++◌, nat_eq, [], List, not, false, ◌==◌, length, map, fold, None, IsTrue, IfOk, OnOk, OnErr};
+ghost use Rattle.std.specs.Prelude.{◌≡◌, ◌==◌, ◌∷◌, ◌++◌, [], nat_eq, not, false, length, map, None, IsTrue, IfOk, OnOk, OnErr};
 ghost use Rattle.std.specs.List.{list_any, IsDistinct};
 ghost use Rattle.std.specs.BTreeMap as tree;
 ghost use Rattle.std.specs.declared.cmp.Ordering.TheVariants.{Less};
 ghost use Rattle.iss_index.specs.Places.{place_of};
-ghost use Rattle.iss_model.specs.rules.Activity.{txn_named};
-ghost use Rattle.iss_model.specs.rules.Due.{txn_due, is_quiet};
-ghost use Rattle.iss_hold.specs.declared.hold.Hold.{Hold};
-ghost use Rattle.iss_hold.specs.Expiries.{Expiry, live_ones, has_come, come_of, holds_come, txns_due};
+ghost use Rattle.iss_model.specs.rules.Due.{is_quiet};
+ghost use Rattle.iss_hold.specs.Expiries.{txns_due, AreDue};
 ghost use Rattle.iss_hold.specs.Holdings.{begun, txn_of_hold, holdings_of};
-ghost use Rattle.iss_hold.specs.Indexes.{names, origins, by_expiry, put_expiry, AreQueued, AreLate, AreInOrder, BeginsLive, ComesLast};
+ghost use Rattle.iss_hold.specs.Indexes.{names, origins, by_expiry, key_of};
+ghost use Rattle.iss_hold.specs.Indexes.{AreInOrder, BeginsLive, ComesLast, AreLateDue, AddsQueued, TellsQueued};
 
 use crate::list::HoldList;
 use iss_model::{Token, Txn};
@@ -101,7 +100,7 @@ impl ExpiryQueue {
     ) -> Result<Vec<Token>, AllocError>
         requires order { AreInOrder holds.now self.now.places.items self.now.late }
         requires once { IsDistinct nat_eq (origins holds.now) }
-        ensures { IfOk result (λ v. map (λ token. txn_due token) v.items ≡ map (λ item. item.thing) (txns_due (holdings_of holds.now) now)) }
+        ensures { IfOk result (λ v. AreDue (holdings_of holds.now) now v.items) }
     {
         let mut due = self.late_due(holds, alloc, now)?;
         self.add_queued(&mut due, holds, now)?;
@@ -116,7 +115,7 @@ impl ExpiryQueue {
         now: u64,
     ) -> Result<BTreeMap<(u64, u32), Token>, AllocError>
         requires { AreInOrder holds.now self.now.places.items self.now.late }
-        ensures { IfOk result (λ due. (others : List Expiry) → AreLate holds.now self.now.late others → due.entries ≡ fold put_expiry [] (come_of now others)) }
+        ensures { IfOk result (λ due. AreLateDue holds.now self.now.late now due.entries) }
     {
         let mut due = BTreeMap::new(alloc);
         for (expiry, place) in self.late.iter() {
@@ -136,7 +135,7 @@ impl ExpiryQueue {
         now: u64,
     ) -> Result<(), AllocError>
         requires { AreInOrder holds.now self.now.places.items self.now.late }
-        ensures { OnOk result ((queued : List Hold) → AreQueued holds.now self.now.places.items queued → due.new.entries ≡ fold put_expiry due.old.entries (live_ones (holds_come now queued))) }
+        ensures { OnOk result (AddsQueued holds.now self.now.places.items now due.old.entries due.new.entries) }
     {
         for place in self.places.iter() {
             let hold = holds.at(*place as usize);
@@ -165,7 +164,7 @@ impl ExpiryQueue {
     fn is_first_due(&self, holds: &HoldList, now: u64) -> bool
         requires order { AreInOrder holds.now self.now.places.items self.now.late }
         requires first { BeginsLive holds.now self.now.places.items }
-        ensures { (queued : List Hold) → AreQueued holds.now self.now.places.items queued → result ≡ list_any (has_come now) (live_ones queued) }
+        ensures { TellsQueued holds.now self.now.places.items now result }
     {
         match self.places.front() {
             Some(place) => holds.expiry_at(*place as usize).0 <= now,
@@ -210,7 +209,7 @@ fn enter(
     requires unknown { place_of txn.now.token (names holds.old) ≡ None }
     requires unordered { tree.get by_expiry late.old (txn.now.expires, txn.now.origin) ≡ None }
     ensures added { OnOk result (holds.new ≡ holds.old ++ begun txn.now ∷ []) }
-    ensures entered { OnOk result (late.new.entries ≡ tree.insert_entry by_expiry late.old.entries (txn.now.expires, txn.now.origin) place) }
+    ensures entered { OnOk result (late.new.entries ≡ tree.insert_entry by_expiry late.old.entries (key_of (begun txn.now)) place) }
     ensures rising { tree.IsOrdered by_expiry late.old → tree.IsOrdered by_expiry late.new }
     ensures holds_stay { OnErr result (holds.new ≡ holds.old) }
     ensures late_stay { OnErr result (late.new.entries ≡ late.old.entries) }

@@ -4,8 +4,7 @@ ghost use Rattle.std.specs.List.{list_any};
 ghost use Rattle.std.specs.Option.{option_map};
 ghost use Rattle.iss_model.specs.Currencies.{iso_number};
 ghost use Rattle.iss_model.specs.rules.Activity.{txn_named};
-ghost use Rattle.iss_model.specs.rules.Due.{txn_due};
-ghost use Rattle.iss_hold.specs.Expiries.{txns_due};
+ghost use Rattle.iss_hold.specs.Expiries.{AreDue};
 ghost use Rattle.iss_hold.specs.Holdings.{begun, txn_of_hold, holdings_of};
 ghost use Rattle.iss_hold.specs.Indexes.{total_of, IsAt, IsIndexed};
 ghost use Rattle.iss_hold.specs.Restoring.{hold_with, live_with};
@@ -18,8 +17,8 @@ use iss_model::{Token, Txn, TxnSums};
 use std::alloc::{AllocError, Global};
 use std::collections::BTreeMap;
 
-/// What the transactions hold, in the order in which they began, with the sums of their users and the places of the live
-/// ones by expiry.
+/// What the transactions hold, in the order in which they began, with the sums of their users and the live ones by
+/// expiry.
 #[derive(Drop)]
 pub(crate) struct Table {
     pub(crate) holds: HoldList,
@@ -108,7 +107,7 @@ impl Table {
     /// The live transactions whose expiry has come, by expiry and then by the number of the authorisation's record.
     pub(crate) fn due(&self, alloc: Global, now: u64) -> Result<Vec<Token>, AllocError>
         requires { IsIndexed self.now }
-        ensures { IfOk result (λ v. map (λ token. txn_due token) v.items ≡ map (λ item. item.thing) (txns_due (holdings_of self.now.holds) now)) }
+        ensures { IfOk result (λ v. AreDue (holdings_of self.now.holds) now v.items) }
     {
         self.expiries.due(&self.holds, alloc, now)
     }

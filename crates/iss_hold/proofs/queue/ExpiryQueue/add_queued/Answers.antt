@@ -1,7 +1,6 @@
-use Rattle.std.proofs.Common.{ℕ, List, ◌∷◌, ◌++◌, fold, map, refl, ap, sym, ◌∙◌, subst}
+use Rattle.std.proofs.Common.{ℕ, List, ◌++◌, fold, map, refl, ap, sym, ◌∙◌, subst}
 use Rattle.std.specs.Prelude.{slice_get}
 use Rattle.std.specs.declared.collections.vec_deque.Iter.{Iter}
-use Rattle.iss_hold.specs.declared.hold.Hold.{Hold}
 use Rattle.iss_hold.specs.Expiries.{Expiry, live_ones, holds_come}
 use Rattle.iss_hold.specs.Indexes.{put_expiry}
 use Rattle.iss_hold.proofs.Listed.{AreTaken, taken_place, taken_live, taken_ended, taken_before, taken_all, no_item}

@@ -1,4 +1,4 @@
-use Rattle.std.proofs.Common.{◌≡◌, ◌+◌, ◌-◌, length, refl, arith}
+use Rattle.std.proofs.Common.{◌-◌, refl, arith}
 use Rattle.iss_hold.proofs.Listed.{item_at, place_within, after_last}
 use Rattle.iss_hold.proofs.queue.ExpiryQueue.comes_last.Goals as goal
 

@@ -1,4 +1,4 @@
-use Rattle.std.proofs.Common.{ℕ, List, [], ◌∷◌, fold, map, ap, sym, ◌∙◌, subst, arith}
+use Rattle.std.proofs.Common.{ℕ, List, [], fold, map, ap, sym, ◌∙◌, subst, arith}
 use Rattle.iss_hold.specs.Expiries.{Expiry, come_of}
 use Rattle.iss_hold.specs.Indexes.{names, with_name, put_expiry}
 use Rattle.iss_hold.proofs.ExpiriesKept.{length_names}

@@ -1,4 +1,3 @@
-use Rattle.std.proofs.Common.{refl}
 use Rattle.iss_hold.proofs.ExpiriesKept.{not_late_yet, pushed_order, pushed_first, entered_order, entered_first}
 use Rattle.iss_hold.proofs.queue.ExpiryQueue.start.Goals as goal
 
