@@ -49,6 +49,8 @@ impl<N: Net<Stream = TcpStream> + Clock + Drop> Sockets<N> {
         }
         if self.at.saturating_sub(self.named) >= FRESH && self.may_be_ready() {
             self.listen_for(0)?;
+        } else {
+            self.send_texts();
         }
         match self.look()? {
             Arrival::Idle => {
@@ -114,9 +116,16 @@ impl<N: Net<Stream = TcpStream> + Clock + Drop> Sockets<N> {
             self.may_admit = true;
         }
         self.named = monotonic(&self.host.net)?;
+        self.send_texts();
+        Ok(())
+    }
+
+    /// Has the gateway take texts that wait, while it does.
+    fn send_texts(&mut self)
+        ensures { self.new ≡ self.old }
+    {
         self.texts
             .send_all(&mut self.host, &mut self.dialled, false);
-        Ok(())
     }
 
     /// A client or a channel that is ready, the one or the other first by turns.
