@@ -1,15 +1,14 @@
 -- Members that are read in the order in which they stand are those of the object that the text is.
-use Rattle.std.proofs.Common.{◌≡◌, ℕ, ◌≤◌, Bool, true, false, cond, List, [], ◌∷◌, ◌++◌, length, is_some, Option, Some, None, option_map, option_and_then, refl, sym, ap, ◌∙◌, arith}
+use Rattle.std.proofs.Common.{◌≡◌, ℕ, Bool, true, false, cond, List, ◌∷◌, ◌++◌, is_some, Option, Some, None, option_map, option_and_then, refl, sym, ap, ◌∙◌, arith}
 use Rattle.std.specs.Str.{IsAscii}
 use Rattle.std.proofs.lemmas.Str.{IsUtf8-from_ascii}
 use Rattle.json.specs.Find as find
-use Rattle.json.specs.Json as json
 use Rattle.json.specs.Json.{Json, null, boolean, number, string, array, object, Members, no_members, member}
 use Rattle.json.specs.Print.{quoted, print, print_from}
 use Rattle.json.specs.Tree.{json_tokens, members_tokens}
 use Rattle.serde_json.specs.Data as plain
 use Rattle.serde_json.specs.Data.{Data}
-use Rattle.serde_json.specs.Find.{get, as_null, as_number, as_u64}
+use Rattle.serde_json.specs.Find.{as_null, as_number, as_u64}
 use Rattle.serde_json.specs.Read.{number_of, of_json}
 use Rattle.iss_field.specs.declared.name.Name.{Name}
 use Rattle.iss_field.specs.Names.{name_text}

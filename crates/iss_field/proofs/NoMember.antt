@@ -1,5 +1,5 @@
 -- A member that stands at the front of bytes is found.
-use Rattle.std.proofs.Common.{◌≡◌, ℕ, zero, suc, ◌+◌, ◌-◌, ◌<◌, ◌≤◌, ◌&&◌, Bool, true, false, cond, nat_lt, List, [], ◌∷◌, ◌++◌, length, drop, take, get_or, slice_range, refl, sym, ap, ◌∙◌, subst, arith, append_assoc, Option, Some, None, IsSome, option_and_then}
+use Rattle.std.proofs.Common.{◌≡◌, ℕ, suc, ◌+◌, ◌-◌, ◌<◌, ◌≤◌, ◌&&◌, Bool, true, false, cond, nat_lt, List, [], ◌∷◌, ◌++◌, length, drop, take, get_or, slice_range, refl, sym, ap, ◌∙◌, subst, arith, append_assoc, Option, Some, None, IsSome, option_and_then}
 use Rattle.std.specs.Option.{IfNone}
 use Rattle.serde_json.specs.Find.{as_u64}
 use Rattle.serde_json.specs.Read.{number_of}

@@ -1,13 +1,11 @@
 -- An object of plain members is read as it is spelled.
-use Rattle.std.proofs.Common.{◌≡◌, ℕ, zero, suc, ◌+◌, ◌≤◌, Bool, true, false, cond, List, [], ◌∷◌, ◌++◌, length, Some, max, option_and_then, refl, sym, ap, ap₂, ◌∙◌, arith, append_assoc, append-nil}
+use Rattle.std.proofs.Common.{◌≡◌, ℕ, ◌≤◌, Bool, true, false, List, [], ◌∷◌, ◌++◌, Some, option_and_then, refl, sym, ap, ap₂, ◌∙◌, arith, append_assoc, append-nil}
 use Rattle.json.specs.Token.{Token}
-use Rattle.json.specs.Token as token
-use Rattle.json.specs.Lex.{tokens}
 use Rattle.std.specs.Borrow.{Bor}
 use Rattle.json.specs.Value.{value_view, members_view}
 use Rattle.json.specs.declared.value.Value.{Value}
 use Rattle.json.specs.Json.{Json, null, boolean, number, string, array, object, Members, no_members, member, if_last, value}
-use Rattle.json.specs.Print.{quoted, token_text, print, print_from}
+use Rattle.json.specs.Print.{quoted, print, print_from}
 use Rattle.json.specs.Tree.{json_tokens, members_tokens, depth, members_depth, HasNumbers, MembersHaveNumbers}
 use Rattle.json.proofs.Printed.Tokens.{tokens-print}
 use Rattle.json.proofs.Printed.Trees.{value-json_tokens, ArePrintable-json_tokens}

@@ -4,7 +4,7 @@ use Rattle.std.proofs.lemmas.Bool.{and_parts, eqb-false, leb-true, and_from, le-
 use Rattle.std.proofs.lemmas.List.{drop_all}
 use Rattle.std.specs.List.{list_all, prefix_len}
 use Rattle.std.specs.Char.{is_ascii_digit}
-use Rattle.json.specs.Word.{head, after_whole, after_fraction, after_exponent, after_number}
+use Rattle.json.specs.Word.{after_whole, after_fraction, after_exponent, after_number}
 use Rattle.json.specs.Print.{IsNumber, escape, quoted}
 use Rattle.json.proofs.Printed.Strings.{escape_byte_plain}
 use Rattle.iss_field.specs.Plain.{is_plain_byte}

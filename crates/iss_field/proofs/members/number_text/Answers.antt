@@ -1,4 +1,4 @@
-use Rattle.std.proofs.Common.{◌≡◌, ◌≤◌, length, get_or, arith}
+use Rattle.std.proofs.Common.{◌≤◌, length, get_or, arith}
 use Rattle.iss_field.proofs.PlainTexts.{number_first}
 use Rattle.iss_field.proofs.members.number_text.Goals as goal
 

@@ -24,5 +24,6 @@ returns-then-end-rest-clause-none c text after all spelled =
     let within = b.within in
     let mark : get_or d c.plain_end-end.result 0 ≡ 34 = ap (λ k. get_or d k 0) run ∙ b.mark in
     elim c.then-end-rest.branch [
-      then-end-rest-via-then-end-rest w ↦ grind arith
-    | then-end-rest-via-else-end-rest+then-rest-end-ne34 w ↦ grind arith ]
+      | then-end-rest-via-then-end-rest w ↦ grind arith
+      | then-end-rest-via-else-end-rest+then-rest-end-ne34 w ↦ grind arith
+    ]

@@ -1,6 +1,6 @@
-use Rattle.std.proofs.Common.{◌≡◌, ◌≤◌, ◌∷◌, ◌++◌, length, drop, get_or, slice_range, sym, ap, ap₂, ◌∙◌, subst, arith}
+use Rattle.std.proofs.Common.{◌≤◌, length, get_or, slice_range, sym, ap, ◌∙◌, subst, arith}
 use Rattle.json.specs.Print.{IsNumber}
-use Rattle.iss_field.proofs.PlainTexts.{number_at, number_cut}
+use Rattle.iss_field.proofs.PlainTexts.{number_at}
 use Rattle.iss_field.proofs.plain.number_after.Goals as goal
 
 pub returns-clause-number : goal.returns-clause-number

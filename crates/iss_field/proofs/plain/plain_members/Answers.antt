@@ -1,8 +1,7 @@
-use Rattle.std.proofs.Common.{◌≡◌, ◌∷◌, ◌++◌, [], true, Some, refl, sym, ap, ◌∙◌, subst, arith}
+use Rattle.std.proofs.Common.{◌≡◌, ◌++◌, true, Some, refl, sym, ap, ◌∙◌, subst}
 use Rattle.json.specs.Json.{object}
 use Rattle.json.specs.Value.{value_view, members_view}
 use Rattle.iss_field.specs.PlainObjects.{ArePlain, opener, spelled}
-use Rattle.iss_field.specs.Seen.{json_text}
 use Rattle.iss_field.proofs.PlainRead.{followed, is_none, plain_followed, read_more, view_push, comma_next, spelled_text}
 use Rattle.iss_field.proofs.plain.plain_members.Goals as goal
 
