@@ -5,6 +5,7 @@ use Rattle.std.proofs.lemmas.Bool.Decides.{nat_tests}
 use Rattle.std.proofs.lemmas.List.{get_or_default}
 use Rattle.iss_model.specs.declared.decision.Verdict.{Verdict}
 use Rattle.iss_model.specs.declared.decision.Verdict.TheVariants as verdict
+use Rattle.iss_index.proofs.Grown.{last_there}
 use Rattle.iss_accepted.specs.declared.row.EventRow.{EventRow}
 use Rattle.iss_accepted.specs.declared.short.ShortRow.{ShortRow}
 use Rattle.iss_accepted.specs.Short.{verdict_of, code_of, other_of, next_start, row_of, rows_of, IsWithin}
@@ -91,10 +92,6 @@ all_within others more [] within = tt
 all_within others more (row ∷ rows) within = (within_stays others more row.verdict.code within.0, all_within others more rows within.1)
 
 -- ---- a row's verdict is noted
-
-last_there : (xs : List Verdict) (y : Verdict) → slice_get (xs ++ y ∷ []) (length xs) ≡ Some y
-last_there [] y = refl
-last_there (x ∷ xs) y = last_there xs y
 
 verdict_noted : (others : List Verdict) (v : Verdict) → verdict_of (others ++ other_of v) (code_of (length others) v) ≡ Some v
 verdict_noted others verdict.Done = refl

@@ -2,12 +2,13 @@
 use Rattle.std.proofs.Common.{◌≡◌, ℕ, ◌+◌, ◌<◌, ◌^◌, List, [], ◌∷◌, ◌++◌, length, sym, ap, ◌∙◌, subst, arith}
 use Rattle.std.specs.Prelude.{None}
 use Rattle.std.specs.BTreeSet.{insert_key}
+use Rattle.iss_index.specs.Grown.{IsGrown}
 use Rattle.iss_model.specs.declared.call.Opened.{Opened}
 use Rattle.iss_model.specs.rules.Activity.{CallNow}
 use Rattle.iss_call.specs.declared.orders.Orders.{Orders}
 use Rattle.iss_call.specs.declared.rows.CallRow.{CallRow}
 use Rattle.iss_call.specs.Orders.{AreOrdered, deadline_key, txn_key, by_deadline, by_txn}
-use Rattle.iss_call.specs.Named.{IsGrown, IsNamed, AreNamed, AreKept, call_in, calls_in}
+use Rattle.iss_call.specs.Named.{IsNamed, AreNamed, AreKept, call_in, calls_in}
 use Rattle.iss_call.proofs.AskedKeys.{ordered_same, ordered_more}
 use Rattle.iss_call.proofs.Named.{calls_length, calls_push, calls_stay, all_stay, named_push}
 

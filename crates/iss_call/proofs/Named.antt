@@ -2,59 +2,18 @@
 use Rattle.std.proofs.Common.{◌≡◌, ℕ, zero, suc, ◌+◌, List, [], ◌∷◌, ◌++◌, length, set, refl, sym, ap, ap₂, ◌∙◌, subst, arith}
 use Rattle.std.specs.Prelude.{Option, Some, None, Result, Ok, Err, OnOk, OnErr, IfOk, IsSome, slice_get, unwrap_or}
 use Rattle.std.specs.Option.{option_map}
-use Rattle.iss_index.specs.Places.{place_of}
-use Rattle.iss_index.proofs.Placed.{place_there}
+use Rattle.iss_index.specs.Grown.{IsGrown}
+use Rattle.iss_index.proofs.Grown.{slot_stays, some_stays}
 use Rattle.iss_model.specs.declared.call.How.{How}
 use Rattle.iss_model.specs.rules.Activity.{CallNow, call_numbered}
 use Rattle.iss_call.specs.declared.rows.CallRow.{CallRow}
 use Rattle.iss_call.specs.declared.rows.TxnName.{TxnName}
 use Rattle.iss_call.specs.declared.rows.TxnName.TheVariants.{OfEvent, Other}
 use Rattle.iss_call.specs.Orders.{AreNumbered}
-use Rattle.iss_call.specs.Named.{IsGrown, txn_in, IsTxnNamed, IsNamed, AreNamed, call_in, calls_in, row_numbered}
+use Rattle.iss_call.specs.Named.{txn_in, IsTxnNamed, IsNamed, AreNamed, call_in, calls_in, row_numbered}
 use Rattle.iss_call.proofs.Numbered.{found_at, none_at_0}
 
--- ---- one more name
-
-there_before : (ns : List (List ℕ)) (n : List ℕ) (i : ℕ) (name : List ℕ) → slice_get ns i ≡ Some name → slice_get (ns ++ n ∷ []) i ≡ Some name
-there_before [] n i name e = cc
-there_before (m ∷ ns) n zero name e = e
-there_before (m ∷ ns) n (suc i) name e = there_before ns n i name e
-
-last_there : (ns : List (List ℕ)) (n : List ℕ) → slice_get (ns ++ n ∷ []) (length ns) ≡ Some n
-last_there [] n = refl
-last_there (m ∷ ns) n = last_there ns n
-
-pub grown_same : (ns : List (List ℕ)) → IsGrown ns ns
-grown_same ns = record { stands = λ place name e. e }
-
-grown_push : (ns : List (List ℕ)) (n : List ℕ) → IsGrown ns (ns ++ n ∷ [])
-grown_push ns n = record { stands = λ place name e. there_before ns n place name e }
-
--- what an added name leaves as it was, and its own place
-pub grown_by : {E : Type 0} (ns ms : List (List ℕ)) (n : List ℕ) (r : Result ℕ E) → OnOk r (ms ≡ ns ++ n ∷ []) → OnErr r (ms ≡ ns) → IsGrown ns ms
-grown_by ns ms n (Ok place) added refused = subst (λ (xs : List (List ℕ)). IsGrown ns xs) (sym added) (grown_push ns n)
-grown_by ns ms n (Err e) added refused = subst (λ (xs : List (List ℕ)). IsGrown ns xs) (sym refused) (grown_same ns)
-
-pub there_by : {E : Type 0} (ns ms : List (List ℕ)) (n : List ℕ) (r : Result ℕ E) → OnOk r (ms ≡ ns ++ n ∷ []) → IfOk r (λ place. place ≡ length ns)
-    → IfOk r (λ place. slice_get ms place ≡ Some n)
-there_by ns ms n (Ok place) added is = ap₂ (λ (xs : List (List ℕ)) (i : ℕ). slice_get xs i) added is ∙ last_there ns n
-there_by ns ms n (Err e) added is = tt
-
--- the name at its place
-pub at_its_place : (ns : List (List ℕ)) (name : List ℕ) (place : ℕ) → Some place ≡ place_of name ns → slice_get ns place ≡ Some name
-at_its_place ns name place is = place_there ns name place (sym is)
-
 -- ---- names that have grown leave calls as they are
-
-stays_by : (o : Option (List ℕ)) (ms : List (List ℕ)) (place : ℕ) → IsSome o → ((n : List ℕ) → o ≡ Some n → slice_get ms place ≡ Some n) → slice_get ms place ≡ o
-stays_by None ms place some h = cc
-stays_by (Some n) ms place some h = h n refl
-
-slot_stays : {ns ms : List (List ℕ)} (place : ℕ) → IsGrown ns ms → IsSome (slice_get ns place) → slice_get ms place ≡ slice_get ns place
-slot_stays {ns} {ms} place g some = stays_by (slice_get ns place) ms place some (λ n e. g.stands place n e)
-
-some_stays : {ns ms : List (List ℕ)} (place : ℕ) → IsGrown ns ms → IsSome (slice_get ns place) → IsSome (slice_get ms place)
-some_stays place g some = subst (λ (o : Option (List ℕ)). IsSome o) (sym (slot_stays place g some)) some
 
 txn_stays : {ns ms : List (List ℕ)} (event : List ℕ) (txn : TxnName) → IsGrown ns ms → IsTxnNamed ns txn → txn_in ms event txn ≡ txn_in ns event txn
 txn_stays event OfEvent g n = refl

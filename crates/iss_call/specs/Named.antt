@@ -1,19 +1,12 @@
 -- Names that are kept once, and calls with the places of their names.
-use Rattle.std.specs.Prelude.{◌≡◌, ℕ, zero, suc, List, [], ◌∷◌, slice_get, Option, None, Some, IsSome, unwrap_or}
+use Rattle.std.specs.Prelude.{◌≡◌, ℕ, zero, suc, List, [], ◌∷◌, slice_get, Option, None, IsSome}
+use Rattle.iss_index.specs.Grown.{name_in}
 use Rattle.iss_model.specs.rules.Activity.{CallNow}
 use Rattle.iss_call.specs.declared.orders.Orders.{Orders}
 use Rattle.iss_call.specs.declared.rows.CallRow.{CallRow}
 use Rattle.iss_call.specs.declared.rows.TxnName.{TxnName}
 use Rattle.iss_call.specs.declared.rows.TxnName.TheVariants.{OfEvent, Other}
 use Rattle.iss_call.specs.Orders.{AreOrdered, id_of}
-
--- each name that stood stands at its place
-pub record IsGrown (before after : List (List ℕ)) : Type 0 where
-  pub stands : (place : ℕ) (name : List ℕ) → slice_get before place ≡ Some name → slice_get after place ≡ Some name
-
--- the name at a place
-abbrev pub name_in : List (List ℕ) → ℕ → List ℕ
-name_in names place = unwrap_or (slice_get names place) []
 
 -- the name of a transaction, which may be its event's
 abbrev pub txn_in : List (List ℕ) → List ℕ → TxnName → List ℕ

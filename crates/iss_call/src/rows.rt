@@ -1,8 +1,9 @@
 //! Calls in rows that name what they share by its place.
 ghost use Rattle.std.specs.Prelude.{◌≡◌, ℕ, List, None, Some, IfOk, slice_get};
 ghost use Rattle.std.specs.Option.{option_copied};
+ghost use Rattle.iss_index.specs.Grown.{IsGrown};
 ghost use Rattle.iss_call.specs.States.{seen_call, AreMarks};
-ghost use Rattle.iss_call.specs.Named.{IsGrown, IsNamed, IsTxnNamed, call_in, calls_in, row_numbered, txn_in};
+ghost use Rattle.iss_call.specs.Named.{IsNamed, IsTxnNamed, call_in, calls_in, row_numbered, txn_in};
 
 use crate::call::{Call, state_of};
 use iss_index::Names;
@@ -19,7 +20,7 @@ pub(crate) enum TxnName {
     Other(u32),
 }
 
-/// A call, with the places of names in place of the names. Its number is told by where the row stands.
+/// A call, with the places of names in place of the names. Its number is given by where the row stands.
 #[derive(Clone, Copy)]
 pub(crate) struct CallRow {
     pub(crate) event: Token,
@@ -93,9 +94,9 @@ pub(crate) fn row_of(
     ensures asked { IfOk result (λ row. call_in names.new opened.now.call.0 row ≡ record { opened = opened.now; how = None }) }
 {
     let (last_card, last_mid) = places_of(last);
-    let card = place_of(names, &opened.card, last_card)?;
-    let user = place_of(names, &opened.user, card.wrapping_add(1))?;
-    let mid = place_of(names, &opened.mid, last_mid)?;
+    let card = names.place_or_add(&opened.card, last_card as usize)?;
+    let user = names.place_or_add(&opened.user, card.wrapping_add(1) as usize)?;
+    let mid = names.place_or_add(&opened.mid, last_mid as usize)?;
     let txn = txn_name(names, opened)?;
     Ok(CallRow {
         event: opened.event,
@@ -131,19 +132,8 @@ fn txn_name(names: &mut Names, opened: &Opened) -> Result<TxnName, AllocError>
     if opened.txn == opened.event {
         return Ok(TxnName::OfEvent);
     }
-    let place = place_of(names, &opened.txn, 0)?;
+    let place = names.place_or_add(&opened.txn, 0)?;
     Ok(TxnName::Other(place))
-}
-
-/// The place of a name, which is added if it has none.
-fn place_of(names: &mut Names, name: &Token, likely: u32) -> Result<u32, AllocError>
-    ensures there { IfOk result (λ place. slice_get names.new place ≡ Some name.now) }
-    ensures grown { IsGrown names.old names.new }
-{
-    if let Some(place) = names.find_near(name, likely as usize) {
-        return Ok(place);
-    }
-    names.add(name)
 }
 
 /// How the first call of each event stands. Later calls go in first, so that earlier ones take their place.

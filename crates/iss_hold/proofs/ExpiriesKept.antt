@@ -7,6 +7,7 @@ use Rattle.std.specs.BTreeMap as tree
 use Rattle.std.specs.BTreeMap.{BTreeMap, is_at, insert_entry}
 use Rattle.std.specs.Map.{lookup, remove_entry, keys_of}
 use Rattle.iss_model.specs.declared.txn.Txn.{Txn}
+use Rattle.iss_index.proofs.Grown.{there_before}
 use Rattle.iss_hold.specs.declared.hold.Hold.{Hold}
 use Rattle.iss_hold.specs.Holdings.{begun, txn_of_hold}
 use Rattle.iss_hold.specs.Expiries.{Expiry, expiry_of, live_ones, with_expiry, expiries}
@@ -16,7 +17,7 @@ use Rattle.iss_hold.proofs.HoldSums.{map_set}
 use Rattle.iss_hold.proofs.ExpiryOrder.{filter_fold}
 use Rattle.iss_hold.proofs.Beginnings.{map_push, fold_push, expiries_more, NoneOf, none_fold, none_live, inserted}
 use Rattle.iss_hold.proofs.Endings.{ended, other_than, removed, expiries_less, expiries_same}
-use Rattle.iss_hold.proofs.NamedExpiries.{there_before, named_more, named_insert, named_remove, same_keys}
+use Rattle.iss_hold.proofs.NamedExpiries.{named_more, named_insert, named_remove, same_keys}
 use Rattle.iss_hold.proofs.Queued.{queued_more, queued_push, ones_push, queued_set, queued_put, ones_same, ones_end}
 use Rattle.iss_hold.proofs.Placed.{put_before, none_of_fold, rising_ordered}
 

@@ -5,50 +5,14 @@ use Rattle.std.proofs.lemmas.Option.{same_Some}
 use Rattle.std.specs.Prelude.{Option, Some, None, Result, Ok, Err, OnOk, OnErr, IfOk, IsSome, slice_get, unwrap_or}
 use Rattle.std.specs.Option.{option_map}
 use Rattle.iss_model.specs.declared.txn.Txn.{Txn}
-use Rattle.iss_index.specs.Places.{place_of}
-use Rattle.iss_index.proofs.Placed.{place_there}
+use Rattle.iss_index.specs.Grown.{IsGrown}
+use Rattle.iss_index.proofs.Grown.{slot_stays, some_stays}
 use Rattle.iss_hold.specs.declared.hold.Hold.{Hold}
 use Rattle.iss_hold.specs.declared.list.HoldRow.{HoldRow}
 use Rattle.iss_hold.specs.Indexes.{names}
-use Rattle.iss_hold.specs.Named.{IsGrown, hold_in, holds_in, IsNamed, AreNamed, AreKept}
-use Rattle.iss_hold.proofs.NamedExpiries.{there_before, last_there}
-
--- ---- one more name
-
-pub grown_push : (ns : List (List ℕ)) (n : List ℕ) → IsGrown ns (ns ++ n ∷ [])
-grown_push ns n = record { stands = λ place name e. there_before ns n place name e }
-
-pub grown_same : (ns : List (List ℕ)) → IsGrown ns ns
-grown_same ns = record { stands = λ place name e. e }
-
-pub grown_then : {a b c : List (List ℕ)} → IsGrown a b → IsGrown b c → IsGrown a c
-grown_then g h = record { stands = λ place name e. h.stands place name (g.stands place name e) }
-
--- what an added name leaves as it was, and its own place
-pub grown_by : {E : Type 0} (ns ms : List (List ℕ)) (n : List ℕ) (r : Result ℕ E) → OnOk r (ms ≡ ns ++ n ∷ []) → OnErr r (ms ≡ ns) → IsGrown ns ms
-grown_by ns ms n (Ok place) added refused = subst (λ (xs : List (List ℕ)). IsGrown ns xs) (sym added) (grown_push ns n)
-grown_by ns ms n (Err e) added refused = subst (λ (xs : List (List ℕ)). IsGrown ns xs) (sym refused) (grown_same ns)
-
-pub there_by : {E : Type 0} (ns ms : List (List ℕ)) (n : List ℕ) (r : Result ℕ E) → OnOk r (ms ≡ ns ++ n ∷ []) → IfOk r (λ place. place ≡ length ns)
-    → IfOk r (λ place. slice_get ms place ≡ Some n)
-there_by ns ms n (Ok place) added is = ap₂ (λ (xs : List (List ℕ)) (i : ℕ). slice_get xs i) added is ∙ last_there ns n
-there_by ns ms n (Err e) added is = tt
-
--- the name at its place
-pub at_its_place : (ns : List (List ℕ)) (name : List ℕ) (place : ℕ) → Some place ≡ place_of name ns → slice_get ns place ≡ Some name
-at_its_place ns name place is = place_there ns name place (sym is)
+use Rattle.iss_hold.specs.Named.{hold_in, holds_in, IsNamed, AreNamed, AreKept}
 
 -- ---- names that have grown leave holds as they are
-
-stays_by : (o : Option (List ℕ)) (ms : List (List ℕ)) (place : ℕ) → IsSome o → ((n : List ℕ) → o ≡ Some n → slice_get ms place ≡ Some n) → slice_get ms place ≡ o
-stays_by None ms place some h = cc
-stays_by (Some n) ms place some h = h n refl
-
-slot_stays : {ns ms : List (List ℕ)} (place : ℕ) → IsGrown ns ms → IsSome (slice_get ns place) → slice_get ms place ≡ slice_get ns place
-slot_stays {ns} {ms} place g some = stays_by (slice_get ns place) ms place some (λ n e. g.stands place n e)
-
-pub some_stays : {ns ms : List (List ℕ)} (place : ℕ) → IsGrown ns ms → IsSome (slice_get ns place) → IsSome (slice_get ms place)
-some_stays place g some = subst (λ (o : Option (List ℕ)). IsSome o) (sym (slot_stays place g some)) some
 
 hold_stays : {ns ms : List (List ℕ)} (token : List ℕ) (row : HoldRow) → IsGrown ns ms → IsNamed ns row → hold_in ms token row ≡ hold_in ns token row
 hold_stays token row g n =

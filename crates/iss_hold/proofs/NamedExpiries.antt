@@ -8,6 +8,7 @@ use Rattle.std.specs.declared.cmp.Ordering.TheVariants.{Less, Equal, Greater}
 use Rattle.std.specs.Ordering.{match_ordering}
 use Rattle.std.specs.BTreeMap.{insert_entry}
 use Rattle.std.specs.Map.{remove_entry, keys_of}
+use Rattle.iss_index.proofs.Grown.{there_before, last_there}
 use Rattle.iss_hold.specs.declared.hold.Hold.{Hold}
 use Rattle.iss_hold.specs.Expiries.{Expiry}
 use Rattle.iss_hold.specs.Indexes.{names, by_expiry, with_name, with_token}
@@ -41,16 +42,6 @@ remove_mapped f (e ∷ es) test = remove_by f e es test (test e.0) (remove_mappe
 keys_mapped : {V W : Type 0} (f : V → W) (es : List ((ℕ × ℕ) × V)) → keys_of (mapped f es) ≡ keys_of es
 keys_mapped f [] = refl
 keys_mapped f (e ∷ es) = ap (λ ks. e.0 ∷ ks) (keys_mapped f es)
-
--- what was there stays there after one more
-pub there_before : {A : Type 0} (xs : List A) (x : A) (i : ℕ) (y : A) → slice_get xs i ≡ Some y → slice_get (xs ++ x ∷ []) i ≡ Some y
-there_before [] x i y e = cc
-there_before (a ∷ xs) x zero y e = e
-there_before (a ∷ xs) x (suc i) y e = there_before xs x i y e
-
-pub last_there : {A : Type 0} (xs : List A) (x : A) → slice_get (xs ++ x ∷ []) (length xs) ≡ Some x
-last_there [] x = refl
-last_there (a ∷ xs) x = last_there xs x
 
 -- one more name changes none that stands
 pub named_more : (ns : List (List ℕ)) (n : List ℕ) (es : List ((ℕ × ℕ) × ℕ)) (xs : List Expiry) → map (with_name ns) es ≡ map with_token xs → map (with_name (ns ++ n ∷ [])) es ≡ map with_token xs

@@ -8,13 +8,13 @@ use Rattle.std.specs.declared.cmp.Ordering.TheVariants.{Less}
 use Rattle.std.specs.Ordering.{is_eq}
 use Rattle.std.specs.Cmp.{tied_itself}
 use Rattle.iss_model.specs.declared.txn.Txn.{Txn}
+use Rattle.iss_index.proofs.Grown.{there_before, last_there}
 use Rattle.iss_hold.specs.declared.hold.Hold.{Hold}
 use Rattle.iss_hold.specs.Holdings.{begun}
 use Rattle.iss_hold.specs.Expiries.{Expiry, expiry_of, live_ones}
 use Rattle.iss_hold.specs.Indexes.{origins, by_expiry, key_of, AreQueued}
 use Rattle.iss_hold.proofs.Beginnings.{map_push, filter_push}
 use Rattle.iss_hold.proofs.Endings.{ended, other_than, by_expiry_total, apart, other_way, number_at}
-use Rattle.iss_hold.proofs.NamedExpiries.{there_before, last_there}
 
 -- ---- one more
 

@@ -9,6 +9,7 @@ use Rattle.iss_model.specs.Currencies.{iso_number}
 use Rattle.iss_model.specs.Sums.{user_key}
 use Rattle.iss_model.specs.state.Kept.{Kept, nothing_kept, kept_at, after_changes}
 use Rattle.iss_model.specs.state.Cores.{Holdings}
+use Rattle.iss_index.proofs.Grown.{last_there}
 use Rattle.iss_hold.specs.declared.hold.Hold.{Hold}
 use Rattle.iss_hold.specs.Bounds.{AreLow}
 use Rattle.iss_hold.specs.Holdings.{begun, txn_of_hold, whole_of, part_sums, user_sums, holdings_of}
@@ -45,10 +46,6 @@ total_low hs h t s view low =
 pub last_set : (hs : List Hold) (h k : Hold) → set (hs ++ h ∷ []) (length hs) k ≡ hs ++ k ∷ []
 last_set [] h k = refl
 last_set (x ∷ hs) h k = ap (λ (ks : List Hold). x ∷ ks) (last_set hs h k)
-
-pub last_there : (hs : List Hold) (h : Hold) → slice_get (hs ++ h ∷ []) (length hs) ≡ Some h
-last_there [] h = refl
-last_there (x ∷ hs) h = last_there hs h
 
 same_total : (user : List ℕ) (number : ℕ) (hs : List Hold) (t : Txn) (s : TxnSums)
     → total_of user number (hs ++ hold_with t s ∷ []) ≡ total_of user number (hs ++ live_with t s ∷ [])

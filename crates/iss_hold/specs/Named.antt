@@ -1,15 +1,8 @@
 -- Names that are kept once, and holds with the places of their names.
-use Rattle.std.specs.Prelude.{◌≡◌, ℕ, List, [], ◌∷◌, length, slice_get, Some, IsSome, unwrap_or}
+use Rattle.std.specs.Prelude.{◌≡◌, ℕ, List, [], ◌∷◌, length, slice_get, IsSome}
+use Rattle.iss_index.specs.Grown.{name_in}
 use Rattle.iss_hold.specs.declared.hold.Hold.{Hold}
 use Rattle.iss_hold.specs.declared.list.HoldRow.{HoldRow}
-
--- each name that stood stands at its place
-pub record IsGrown (before after : List (List ℕ)) : Type 0 where
-  pub stands : (place : ℕ) (name : List ℕ) → slice_get before place ≡ Some name → slice_get after place ≡ Some name
-
--- the name at a place
-abbrev pub name_in : List (List ℕ) → ℕ → List ℕ
-name_in names place = unwrap_or (slice_get names place) []
 
 -- the hold of a row and its transaction's token, over these names
 abbrev pub hold_in : List (List ℕ) → List ℕ → HoldRow → Hold

@@ -2,10 +2,11 @@
 ghost use Rattle.std.specs.Prelude.{◌≡◌, ◌<◌, ◌^◌, [], ◌∷◌, ◌++◌, None, Some, IfOk, OnOk, OnErr, length, set, slice_get};
 ghost use Rattle.std.specs.Option.{option_map};
 ghost use Rattle.iss_index.specs.Places.{place_of};
+ghost use Rattle.iss_index.specs.Grown.{IsGrown};
 ghost use Rattle.iss_hold.specs.declared.hold.Hold.{Hold};
 ghost use Rattle.iss_hold.specs.Holdings.{begun, whole_of};
 ghost use Rattle.iss_hold.specs.Indexes.{names, key_of};
-ghost use Rattle.iss_hold.specs.Named.{hold_in, IsNamed, IsGrown};
+ghost use Rattle.iss_hold.specs.Named.{hold_in, IsNamed};
 
 use crate::hold::Hold;
 use iss_index::Names;
@@ -211,10 +212,10 @@ fn row_of(names: &mut Names, txn: &Txn, likely: [u32; 4]) -> Result<HoldRow, All
     ensures named { IfOk result (λ row. IsNamed names.new row) }
     ensures begun { IfOk result (λ row. hold_in names.new txn.now.token row ≡ begun txn.now) }
 {
-    let card = place_of(names, &txn.card, likely[0])?;
-    let user = place_of(names, &txn.user, likely[1])?;
-    let product = place_of(names, &txn.product, likely[2])?;
-    let mid = place_of(names, &txn.mid, likely[3])?;
+    let card = names.place_or_add(&txn.card, likely[0] as usize)?;
+    let user = names.place_or_add(&txn.user, likely[1] as usize)?;
+    let product = names.place_or_add(&txn.product, likely[2] as usize)?;
+    let mid = names.place_or_add(&txn.mid, likely[3] as usize)?;
     Ok(HoldRow {
         card,
         user,
@@ -231,15 +232,4 @@ fn row_of(names: &mut Names, txn: &Txn, likely: [u32; 4]) -> Result<HoldRow, All
         p: 0,
         s: 0,
     })
-}
-
-/// The place of a name, which is added if it has none.
-fn place_of(names: &mut Names, name: &Token, likely: u32) -> Result<u32, AllocError>
-    ensures there { IfOk result (λ place. slice_get names.new place ≡ Some name.now) }
-    ensures grown { IsGrown names.old names.new }
-{
-    if let Some(place) = names.find_near(name, likely as usize) {
-        return Ok(place);
-    }
-    names.add(name)
 }

@@ -4,6 +4,7 @@ ghost use Rattle.std.specs.List.{IsDistinct};
 ghost use Rattle.std.specs.Str.{bytes_eq};
 ghost use Rattle.iss_index.specs.Hashing.{is_at};
 ghost use Rattle.iss_index.specs.Places.{place_of};
+ghost use Rattle.iss_index.specs.Grown.{IsGrown, names_with};
 
 use crate::groups::is_at;
 use crate::places::NamePlaces;
@@ -117,6 +118,21 @@ impl Names {
         self.places.put(name, place)?;
         self.names.push(*name)?;
         Ok(place)
+    }
+
+    /// The place of a name that is likely to be this one. A name that has none is added after the others.
+    ///
+    /// If an allocation fails, all stays as it was, and so if 2^32 - 1 names stand and this isn't one of them.
+    pub fn place_or_add(&mut self, name: &Token, near: usize) -> Result<u32, AllocError>
+        ensures there { IfOk result (λ place. slice_get self.new place ≡ Some name.now) }
+        ensures with { OnOk result (self.new ≡ names_with name.now self.old) }
+        ensures grown { IsGrown self.old self.new }
+        ensures refused { OnErr result (self.new ≡ self.old) }
+    {
+        match self.find_near(name, near) {
+            Some(place) => Ok(place),
+            None => self.add(name),
+        }
     }
 
     /// Makes more groups if one name more is to have them.

@@ -119,7 +119,7 @@ impl Peer {
         Ok(count)
     }
 
-    /// What the next take finds after one of so many bytes that had this room. One that left room took all.
+    /// What the next take finds after one of this many bytes that had this room. One that left room took all.
     fn after(&self, count: usize, room: usize) -> Next {
         if count == 0 {
             Next::Over
