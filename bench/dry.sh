@@ -8,7 +8,8 @@
 # change from one to the next. Instructions, which don't, are counted by valgrind, where it is there.
 #
 # With words, 20000 lines of each of these inputs (bench/inputs.sh): controls10 and controls256 are purchases under so many controls,
-# gateway purchases with the answers of their gateway, mixed lines of all kinds; mix, simple and drill are kept here.
+# gateway purchases with the answers of their gateway, crowded purchases with the worst tokens, mixed lines of all kinds; mix, simple and
+# drill are kept here.
 set -eu -o pipefail
 cd "$(dirname "$0")/.."
 

@@ -15,6 +15,15 @@ purchases() {
     }'
 }
 
+# crowded COUNT: purchases whose tokens are as bad for a look-up as names can be (bench/crowd.c). Those of 20,000 are found within a minute.
+crowded() {
+    if ! [ -s "$room/names$1" ]; then
+        gcc -O2 -Wall -o "$room/crowd" bench/crowd.c
+        "$room/crowd" "$1" >"$room/names$1"
+    fi
+    purchases "$1" | awk 'NR == FNR { names[NR] = $1; next } { sub(/"token":"[^"]*"/, "\"token\":\"" names[FNR] "\""); print }' "$room/names$1" -
+}
+
 # controls NUMBER COUNT: so many lines, of which the first are a user, a card and so many controls, and the rest purchases that each of
 # seven in ten controls counts: over a day, a week, a month or for good in turn, three in ten for one category alone. None declines.
 controls() {

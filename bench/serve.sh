@@ -10,54 +10,8 @@
 set -eu -o pipefail
 cd "$(dirname "$0")/.."
 
-command -v gcc >/dev/null || { echo "$0: no gcc here, so there are no clients and no gateway" >&2; exit 1; }
-issuer=${ISSUER:-build/issuer}
-mkdir -p build
-folder=$(mktemp -d "${1:-build}/bench.XXXXXX")
-room=$(mktemp -d)
-server=
-gateway=
-leave() {
-    local number
-    for number in $server $gateway; do
-        { kill -9 "$number" && wait "$number"; } 2>/dev/null || true
-    done
-    rm -rf "$room" "$folder"
-}
-trap leave EXIT
-for program in gateway load replay; do
-    gcc -O2 -Wall -o "$room/$program" "bench/$program.c"
-done
-ulimit -n "$(ulimit -Hn)"
-
-device=$folder/device
-port=$((20000 + RANDOM % 10000))
-gateway_port=$((port + 1))
-cat >"$room/settings" <<'END'
-{"type":"product","token":"p1","product":"g","currency":"USD","funding":"GATEWAY","timeout_ms":60000}
-{"type":"user","token":"t1","user":"u1"}
-{"type":"card","token":"t2","card":"c1","user":"u1","product":"g"}
-END
-
-started() {
-    rm -f "$device"
-    "$issuer" format "$device" 64000000 0
-    "$issuer" replay "$device" <"$room/settings" >"$room/texts"
-    "$room/gateway" "$gateway_port" "$1" >"$room/heard" &
-    gateway=$!
-    until (exec {peer}<>"/dev/tcp/127.0.0.1/$gateway_port") 2>/dev/null; do
-        sleep 0.01
-    done
-    "$issuer" serve "$device" "$port" "$gateway_port" 4294967295 &
-    server=$!
-}
-
-stopped() {
-    kill -9 "$server" "$gateway"
-    wait "$server" "$gateway" 2>/dev/null || true
-    server=
-    gateway=
-}
+. bench/serving.sh
+in_folder "${1:-build}"
 
 # looped RECORDS: how many seconds the loop takes that writes the same records, so many at most. It ends with 1 where there are fewer.
 looped() {

@@ -1,5 +1,6 @@
 #!/usr/bin/env bash
-# Thousands of names, events, calls, notices, purchases and holds: each line is told what it would be told of a few.
+# Thousands of names, events, calls, notices, purchases and holds: each line is told what it would be told of a few. So it is if the
+# tokens are those for which a look-up takes longest.
 . "$(dirname "$0")/../program.sh"
 
 # What each case's program in awk writes lines and texts with. The lines go to one file, and what they are told, worked out apart
@@ -159,3 +160,17 @@ sized 'ten thousand holds of ten users' '
         purchase("half" i, "s" i, "30.00", 86400000); approved("half" i)
     }
 '
+
+# All of these tokens point to one group of the index of names (bench/crowd.c).
+if command -v gcc >/dev/null; then
+    gcc -O2 -o "$room/crowd" bench/crowd.c
+    "$room/crowd" 2000 >"$room/names"
+    sized 'two thousand purchases whose tokens are the worst for a look-up, each of which comes again and is cleared' '
+        while ((getline token <"'"$room/names"'") > 0) tokens[count++] = token
+        user("u1"); product("p", "ACCOUNT", "\"hold_ms\":86400000"); card("c1", "u1", "p")
+        load("l", "u1", "20.00"); done("l")
+        for (i = 0; i < 4000; i++) { purchase(tokens[i % 2000], "c1", "0.01", 0); approved(tokens[i % 2000]) }
+        for (i = 0; i < 2000; i++) { later("clearing", "k" i, tokens[i], "0.01", ""); done("k" i) }
+        later("clearing", "k", "00000000", "0.01", ""); declined("k", "TXN_UNKNOWN")
+    '
+fi
