@@ -147,7 +147,8 @@ python3 "$reader" "$room/turned" >"$room/out" 2>"$room/said" || status=$?
 grep -qF 'its first 7 records are in its image alone' "$room/said" || fail "a device that has turned: it said '$(cat "$room/said")'"
 move 8 SUSPENDED >"$room/last"
 wrote 'a device that has turned' "$room/last"
-python3 "$reader" "$room/turned" --stats | head -n 1 >"$room/out"
+python3 "$reader" "$room/turned" --stats >"$room/stats_turned"
+head -n 1 "$room/stats_turned" >"$room/out"
 wrote 'how many records a device that has turned has' - <<<'records 8'
 
 refused "$room/none" 'No such file'

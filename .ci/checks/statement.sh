@@ -44,4 +44,5 @@ refused() {
 head -n -1 "$lines" | refused 'no closing line'
 grep -v '"a1"' "$lines" | refused 'no whole statement'
 refused 'no line' </dev/null
-python3 "$page" '<b>' USD 1970-01-02 1970-01-31 <"$lines" | grep -qF '<dd>&lt;b&gt;</dd>' || fail 'a name went into the page as it is'
+python3 "$page" '<b>' USD 1970-01-02 1970-01-31 <"$lines" >"$room/escaped"
+grep -qF '<dd>&lt;b&gt;</dd>' "$room/escaped" || fail 'a name went into the page as it is'
