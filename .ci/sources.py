@@ -42,7 +42,7 @@ class Call:
 
 
 OWNER = re.compile(r"^(?:pub )?(impl|trait)\b(?:<.*?>)? *(?:\w+(?:<.*?>)? for )?&?(\w+)")
-FUNCTION = re.compile(r"^ *(pub )?(?:unsafe )?fn (\w+)")
+FUNCTION = re.compile(r"^ *(pub(?:\([a-z ]+\))? )?(?:const )?(?:unsafe )?fn (\w+)")
 CLAUSE = re.compile(r"^ *(ensures|requires)\s+(\w*)\s*\{")
 
 

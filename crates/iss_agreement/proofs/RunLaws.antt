@@ -31,14 +31,14 @@ clock_follows h i stamp r e =
     record { stamp = not_before history_keeper h stamp r.at (clock_at history_keeper h i stamp r e); is_new = clock_again history_keeper h i stamp r e }
 
 -- what may follow a record that is made only if one more may come, and it fits
-fitting : (h : History) (i : Input) (stamp : ℕ) (may fit : Bool) (spent full : Answer) (r : Record) (j : Judged) (rest : List Record) → record_made j ≡ Some r
+fitting : (h : History) (i : Input) (stamp : ℕ) (may fit : Bool) (none_left full : Answer) (r : Record) (j : Judged) (rest : List Record) → record_made j ≡ Some r
     → (reaction_as history_keeper h i stamp j).world ≡ (step history_keeper h r).world → Follows h r
-    → IsLegalAfter (reaction_as history_keeper h i stamp (cond may (cond fit j (judged.Told full)) (judged.Told spent))).world rest
-    → IsLegalAfter h (option_to_list (record_made (cond may (cond fit j (judged.Told full)) (judged.Told spent))) ++ rest)
-fitting h i stamp true true spent full r j rest made next follows legal =
+    → IsLegalAfter (reaction_as history_keeper h i stamp (cond may (cond fit j (judged.Told full)) (judged.Told none_left))).world rest
+    → IsLegalAfter h (option_to_list (record_made (cond may (cond fit j (judged.Told full)) (judged.Told none_left))) ++ rest)
+fitting h i stamp true true none_left full r j rest made next follows legal =
     subst (λ o. IsLegalAfter h (option_to_list o ++ rest)) (sym made) (follows, subst (λ w. IsLegalAfter w rest) next legal)
-fitting h i stamp true false spent full r j rest made next follows legal = legal
-fitting h i stamp false fit spent full r j rest made next follows legal = legal
+fitting h i stamp true false none_left full r j rest made next follows legal = legal
+fitting h i stamp false fit none_left full r j rest made next follows legal = legal
 
 -- in any room too, what may follow a record that is made only if one more may come
 fitting_in : (room : Option Room) (h : History) (i : Input) (stamp : ℕ) (r : Record) (j : Judged) (rest : List Record) → record_made j ≡ Some r

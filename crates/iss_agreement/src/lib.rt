@@ -1,8 +1,7 @@
 //! Laws of every run: a core's state and the book of its records agree, and no rule tells apart cores that are alike.
 //! Each law is the contract of a function with an empty body.
 //!
-//! It may cite `iss_model`.
-//! It must not cite any body: its laws are of definitions.
+//! It may cite `iss_model` and `iss_acts`. It must not cite any body: its laws are of definitions.
 #![tactic(auto)]
 
 mod agreement;

@@ -2,8 +2,8 @@
 //!
 //! A keeper holds a head, which says of which device and how many records the postings are, and the postings.
 //!
-//! It may cite `iss_model` and the law that book and state agree.
-//! It must not cite the core, the store or a database.
+//! It may cite `iss_model`, and of `iss_agreement` the law that book and state agree. It must not cite the core, the store or a
+//! database.
 #![tactic(auto)]
 
 mod archiving;

@@ -2,8 +2,8 @@
 //!
 //! What answers a body is a parameter: a value that, by what stands in it, has a response to each body and stands otherwise after it.
 //!
-//! It may cite `iss_edge`, `iss_http`, `iss_clients` and the definitions of serving.
-//! It must not cite words, what a body says, nor the real outside: it works over any `Edge`.
+//! It may cite `iss_edge`, `iss_http`, `iss_link`, `iss_clients` and the definitions of serving. It must not cite words, what a
+//! body says, nor the real outside: it works over any `Edge`.
 #![tactic(auto)]
 
 mod answering;

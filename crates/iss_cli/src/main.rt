@@ -1,7 +1,7 @@
 //! The program: hands its words and the real outside to `run`, and ends with the status that this answers.
 //!
-//! It may cite `iss_top`, `iss_real`, the statuses of `iss_edge` and std's streams and files.
-//! It must not cite the model: all that it decides is in `iss_top`.
+//! It may cite `iss_top`, `iss_real`, the statuses of `iss_edge`, `thiserror` and std's streams and files. It must not cite the
+//! model: all that it decides is in `iss_top`.
 #![tactic(auto)]
 
 mod failure;

@@ -8,8 +8,8 @@
 //! A core is made again from what it keeps as lists (`restoring`): settings are judged and taken up from the events
 //! (`settings_again`), and all other parts are made again by crates below.
 //!
-//! It may cite `iss_model`, its parts, the crates that make these again, and definitions and laws of the crates of laws.
-//! It must not cite bytes: lines, texts, the outside.
+//! It may cite `iss_model`, its parts, `iss_restored` and `iss_restored_lists`, which make these again, `iss_known`, `iss_sound`,
+//! and definitions and laws of the crates of laws. It must not cite bytes: lines, texts, the outside.
 #![tactic(auto)]
 
 mod answers;

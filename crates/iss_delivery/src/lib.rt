@@ -1,7 +1,7 @@
 //! What the processor and the gateway send each other, as the other side takes it.
 //!
-//! It may cite `iss_model`, `iss_jit`, `iss_gateway`, the definitions of `iss_exchange_laws`, and laws of the book in proofs.
-//! It must not cite the core: it doesn't know what stands.
+//! It may cite `iss_model`, `iss_jit`, `iss_gateway`, `uuid`, the definitions of `iss_exchange_laws`, and laws of the book in
+//! proofs. It must not cite the core: it doesn't know what stands.
 #![tactic(auto)]
 
 mod answers;

@@ -1,7 +1,7 @@
 //! The processor and the gateway together, as definitions, and the law that their books differ by what is on its way.
 //!
-//! It may cite `iss_model`, the crates of laws over it, and the definitions of `iss_gateway`.
-//! It must not cite any body of the program.
+//! It may cite `iss_model`, the crates of laws over it, `iss_laws`, `iss_gateway_laws`, the definitions of `iss_gateway`, and
+//! `byteorder`. It must not cite any body of the program.
 #![tactic(auto)]
 
 mod laws;

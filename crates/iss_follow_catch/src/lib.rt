@@ -1,8 +1,8 @@
 //! Bringing a second device up to a first one: the records that it doesn't hold yet are committed to it.
 //!
-//! It may cite `iss_edge`, `iss_journal`, `iss_halves`, the model and its laws, `iss_core`, `iss_snapshot`, `iss_standing`, `iss_opening`,
-//! `iss_store`, `iss_device` and `iss_follow_runs`.
-//! It must not cite the words of a run.
+//! It may cite `iss_edge`, `iss_journal`, `iss_halves`, the model and its laws, `iss_codec`, `iss_image`, `iss_image_forms`,
+//! `iss_core`, `iss_snapshot`, `iss_standing`, `iss_opening`, `iss_store`, `iss_device` and `iss_follow_runs`. It must not cite
+//! the words of a run.
 #![tactic(auto)]
 
 mod ahead;

@@ -281,9 +281,9 @@ undone_is_low : (b : Books) (token : Option (List ℕ)) → list_all (λ p. is_l
 undone_is_low b None h = tt
 undone_is_low b (Some token) h = unless (is_voided b token) (promise_of b token) (found_in b token b.promises h)
 
-pub undone_low : (b : Books) (tokens : BTreeMap (List ℕ) Known) (numbers : BTreeSet ℕ) (sums : BTreeMap (List ℕ × ℕ) ℤ) (token : Option (List ℕ)) (undone : Option Promise)
-    → AreIndexed b tokens numbers sums → undone ≡ undone_by b token → IfSome undone (λ p. is_low p.funded ≡ true)
-undone_low b tokens numbers sums token undone h e =
+pub undone_low : (b : Books) (tokens : BTreeMap (List ℕ) Known) (numbers : BTreeSet ℕ) (sums : BTreeMap (List ℕ × ℕ) ℤ) (token : Option (List ℕ)) (kept : Option Promise)
+    → AreIndexed b tokens numbers sums → kept ≡ undone_by b token → IfSome kept (λ p. is_low p.funded ≡ true)
+undone_low b tokens numbers sums token kept h e =
     subst (λ (o : Option Promise). IfSome o (λ p. is_low p.funded ≡ true)) (sym e) (undone_is_low b token h.low_promises)
 
 less_small : (z : ℤ) (n : ℕ) → IsSmallSum 1000000000000000000 z → n ≤ 1000000000000 → IsSmallSum 2000000000000000000 (z -ℤ pos n)
@@ -296,10 +296,10 @@ undone_up : (x : Bool) (z : ℤ) (n : ℕ) → IsSmallSum 1000000000000000000 z 
 undone_up true z n h low = less_small z n h low
 undone_up false z n h low = less_small z 0 h (omega arith)
 
-pub taken_small : (sums sums' : BTreeMap (List ℕ × ℕ) ℤ) (undone : Option Promise) → AreSmall 1000000000000000000 sums → IfSome undone (λ p. is_low p.funded ≡ true)
-    → ((user : List ℕ) (c : Currency) → sum_in sums' (user, iso_number c) ≡ sum_in sums (user, iso_number c) -ℤ undone_at undone user c) → AreSmall 2000000000000000000 sums'
-taken_small sums sums' undone small low taken user c =
-    subst (IsSmallSum 2000000000000000000) (sym (taken user c)) (by undone low (sum_in sums (user, iso_number c)) (small user c))
+pub taken_small : (sums sums' : BTreeMap (List ℕ × ℕ) ℤ) (kept : Option Promise) → AreSmall 1000000000000000000 sums → IfSome kept (λ p. is_low p.funded ≡ true)
+    → ((user : List ℕ) (c : Currency) → sum_in sums' (user, iso_number c) ≡ sum_in sums (user, iso_number c) -ℤ undone_at kept user c) → AreSmall 2000000000000000000 sums'
+taken_small sums sums' kept small low taken user c =
+    subst (IsSmallSum 2000000000000000000) (sym (taken user c)) (by kept low (sum_in sums (user, iso_number c)) (small user c))
   where
     by : (o : Option Promise) → IfSome o (λ p. is_low p.funded ≡ true) → (z : ℤ) → IsSmallSum 1000000000000000000 z → IsSmallSum 2000000000000000000 (z -ℤ undone_at o user c)
     by None h z fits = less_small z 0 fits (omega arith)

@@ -1,7 +1,6 @@
 //! The laws of the book on which the gateway's books and the processor's agree.
 //!
-//! It may cite `iss_model` and the crates of laws over it.
-//! It must not cite any body of the program.
+//! It may cite `iss_model`, the crates of laws over it, and `iss_laws`. It must not cite any body of the program.
 #![tactic(auto)]
 
 mod laws;

@@ -2,8 +2,7 @@
 //!
 //! An amount is a whole number of minor units.
 //!
-//! It may cite `iss_model`.
-//! It must not cite the other parts of the core.
+//! It may cite `iss_model`, and `iss_index` for names. It must not cite the other parts of the core.
 #![tactic(auto)]
 
 mod hold;

@@ -2,8 +2,8 @@
 //!
 //! The events' tokens stand in a table, and each list names them by their places there. `image_of_state` is the definition.
 //!
-//! It may cite `iss_model`, `iss_codec`, `iss_index`, `iss_image_lists`, and of `iss_states` the state without a record.
-//! It must not cite the core, its parts, or a device.
+//! It may cite `iss_model`, `iss_codec`, `iss_index`, `iss_image_lists`, of `iss_states` the state without a record, and of
+//! `iss_acts`, `iss_agreement` and `iss_state` their laws. It must not cite the core, its parts, or a device.
 #![tactic(auto)]
 
 mod events;

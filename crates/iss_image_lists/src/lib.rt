@@ -3,8 +3,8 @@
 //! Each list comes after its length in four bytes. All numbers are big-endian, and a token is its place in a table.
 //! `specs/Spelling.antt` is the definition.
 //!
-//! It may cite `iss_model` and `iss_codec`.
-//! It must not cite a state's rules: it knows the bytes of its lists alone.
+//! It may cite `iss_model` and `iss_codec`, and `iss_index` for the places of tokens. It must not cite a state's rules: it knows
+//! the bytes of its lists alone.
 #![tactic(auto)]
 
 mod balances;

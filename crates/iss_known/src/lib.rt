@@ -1,7 +1,7 @@
 //! What the events of a state make known: one pass over them, for whoever tests the state.
 //!
-//! It may cite `iss_model`, `iss_index`, and definitions and laws of `iss_states`, `iss_rebuilt` and `iss_well_formed`.
-//! It must not cite the core or its parts.
+//! It may cite `iss_model`, `iss_index`, and definitions and laws of the crates of laws over the model. It must not cite the core
+//! or its parts.
 #![tactic(auto)]
 
 mod asks;

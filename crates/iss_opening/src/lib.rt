@@ -2,8 +2,9 @@
 //!
 //! A `Reading` hands out one record after the other, with the entries that it makes. `open` is the loop over it with nothing done.
 //!
-//! It may cite `iss_edge`, `iss_journal`, `iss_halves`, `iss_codec`, `iss_core`, `iss_snapshot`, `iss_standing`, the model and its laws.
-//! It must not cite what a store plans, commits or says.
+//! It may cite `iss_edge`, `iss_journal`, `iss_halves`, `iss_codec`, `iss_core`, `iss_snapshot` with the crates of images
+//! `iss_image_lists`, `iss_image` and `iss_image_forms`, `iss_standing`, `iss_sound`, the model and its laws. It must not cite
+//! what a store plans, commits or says.
 #![tactic(auto)]
 
 mod fault;

@@ -1,7 +1,7 @@
 //! The parts of a core that are lists, made again from a sound state: events, calls, notices, stand-ins and counters.
 //!
-//! It may cite `iss_model`, the parts that it makes again, `iss_known`, and definitions and laws of the crates of laws.
-//! It must not cite the core.
+//! It may cite `iss_model`, the parts that it makes again, `iss_time`, `iss_index`, `iss_codec`, `iss_known`, and definitions and
+//! laws of the crates of laws. It must not cite the core.
 #![tactic(auto)]
 
 mod calls;

@@ -3,9 +3,9 @@
 //! The definitions of serving say what is sent to whom after what was heard. What a stop leaves at any moment is said over
 //! the same steps.
 //!
-//! It may cite `iss_edge`, `iss_clients`, `iss_journal`, `iss_halves`, `iss_event`, `iss_http`, `iss_link`, `iss_standing`, `iss_opening`,
-//! `iss_store`, `iss_device`, `iss_model` and the definitions of serving.
-//! It must not cite words, nor the real outside: it works over any `Edge`.
+//! It may cite `iss_edge`, `iss_clients`, `iss_journal`, `iss_halves`, `iss_event`, `iss_http`, `iss_jit`, `iss_link`,
+//! `iss_core`, `iss_standing`, `iss_opening`, `iss_store`, `iss_device`, `iss_model` and its laws, and the definitions of
+//! serving. It must not cite words, nor the real outside: it works over any `Edge`.
 #![tactic(auto)]
 
 mod closing;

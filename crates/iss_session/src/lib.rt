@@ -1,7 +1,7 @@
 //! What a server sends to whom, after whatever it heard, as definitions with their laws.
 //!
-//! It may cite `iss_edge`, `iss_model`, `iss_http` and the laws of book and state.
-//! It must not cite any body of the program, nor how JSON is read.
+//! It may cite `iss_edge`, `iss_model`, `iss_http`, and of `iss_acts` and `iss_agreement` the laws of book and state. It must not
+//! cite any body of the program, nor how JSON is read.
 #![tactic(auto)]
 
 mod accounts;

@@ -1,7 +1,7 @@
 //! Worked sessions: the checker computes each of them from the definitions of serving.
 //!
-//! It may cite `iss_session`, `iss_book_examples`, and how `iss_event` and `iss_jit` read texts.
-//! It must not cite any body of the program.
+//! It may cite `iss_edge`, `iss_model`, `iss_http`, `iss_session`, `iss_book_examples`, and how `iss_event`, `iss_jit`,
+//! `iss_field`, `httparse`, `json`, `serde_json` and `uuid` read texts. It must not cite any body of the program.
 #![tactic(auto)]
 
 mod reading;

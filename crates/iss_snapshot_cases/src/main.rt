@@ -5,7 +5,7 @@
 //! for each damaged one, the program prints `loads` if it makes a core of which it is the image, and else `none`. `.ci/images.py` makes its
 //! input, and says of each image what is printed, by a second reading of the bytes and the rules.
 //!
-//! It may cite `iss_snapshot`. Nothing may cite it.
+//! It may cite `iss_snapshot` and `hex`. Nothing may cite it.
 #![tactic(auto)]
 
 mod damages;

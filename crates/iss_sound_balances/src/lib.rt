@@ -1,8 +1,8 @@
 //! The test of a state's balances: each account has what it is owed, and balances are of known
 //! accounts and in order.
 //!
-//! It may cite `iss_model`, `iss_ledger`, `iss_known`, and the laws over states.
-//! It must not cite the core or its other parts.
+//! It may cite `iss_model`, `iss_index`, `iss_ledger`, `iss_known`, and the crates of laws over the model. It must not cite the
+//! core or its other parts.
 #![tactic(auto)]
 
 mod balances;

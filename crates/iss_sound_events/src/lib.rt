@@ -1,7 +1,7 @@
 //! What can be told of a state's events and of its transactions' sums without a core that is made again.
 //!
-//! It may cite `iss_model`, `iss_index` and definitions of `iss_states`, `iss_well_formed`, `iss_decided` and `iss_least`.
-//! It must not cite the core or its parts.
+//! It may cite `iss_model`, `iss_index`, and definitions of the crates of laws over the model. It must not cite the core or its
+//! parts.
 #![tactic(auto)]
 
 mod events;

@@ -1,7 +1,7 @@
 //! What a device stands for, in one journal or in halves, and how a run on it goes on: by the records of a history.
 //!
-//! It may cite `iss_edge`, `iss_journal`, `iss_halves`, the model, and what the image of a state is.
-//! It must not cite a core or a store: what stands on a device is said by its bytes and by the book.
+//! It may cite `iss_edge`, `iss_journal`, `iss_halves`, the model, `iss_codec`, and of `iss_states` and `iss_image` what the
+//! image of a state is. It must not cite a core or a store: what stands on a device is said by its bytes and by the book.
 #![tactic(auto)]
 
 mod laws;

@@ -1,7 +1,7 @@
 //! Statements over the archive of postings: what moved on a user's account in a currency over some days, as lines.
 //!
-//! It may cite `iss_edge` for bytes, the model, the archive's rows, amounts and `jiff`.
-//! It must not cite a keeper's calls, the core or the store.
+//! It may cite `iss_edge` for bytes, the model, the rows of `iss_archive`, `iss_amount`, `jiff` and `jiff_core`. It must not cite
+//! a keeper's calls, the core or the store.
 #![tactic(auto)]
 
 mod dates;

@@ -1,7 +1,7 @@
 //! Writing a statement: what a keeper of the archive holds of a user goes out as lines, by one emit.
 //!
-//! It may cite `iss_edge`, the model, the archive and `iss_statement`.
-//! It must not cite a device's calls, the core, the store or a database.
+//! It may cite `iss_edge`, the model, `iss_archive` and `iss_statement`. It must not cite a device's calls, the core, the store
+//! or a database.
 #![tactic(auto)]
 
 mod fault;

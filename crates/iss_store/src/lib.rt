@@ -4,9 +4,9 @@
 //! fits, and can't be sent. A `Durable` is a record that lasts, and only a commit makes one. Between a plan and its open gate
 //! nothing but the device can refuse.
 //!
-//! It may cite `iss_edge`, `iss_channels`, `iss_journal`, `iss_halves`, `iss_standing`, `iss_opening`, `iss_snapshot`, `iss_codec`, `iss_core`, `iss_http`, `iss_jit`, `iss_session`, `iss_link`,
-//! `iss_event`, `iss_texts`, `iss_model` and its laws.
-//! It must not cite lines that come in, nor what a run is for.
+//! It may cite `iss_edge`, `iss_channels`, `iss_journal`, `iss_halves`, `iss_standing`, `iss_opening`, `iss_snapshot`,
+//! `iss_image`, `iss_codec`, `iss_core`, `iss_http`, `iss_jit`, `iss_session`, `iss_link`, `iss_event`, `iss_texts`, `iss_model`
+//! and its laws. It must not cite lines that come in, nor what a run is for.
 #![tactic(auto)]
 
 mod durable;

@@ -1,7 +1,8 @@
 //! The two tables of the archive of postings, in SQL: the statements, and what each does to the tables.
 //!
-//! It may cite `sqlite`.
-//! It must not cite the model: a posting is columns here, numbers and texts.
+//! It may cite `sqlite`, and for its files and statements `sqlite_tied`, `sqlite_schema`, `sqlite_catalog`, `sqlite_rules`,
+//! `sqlite_resolve`, `sqlite_sql`, `sqlite_value`, `sqlite_trees`, `sqlite_disk`, `sqlite_items` and `sqlite_typing`. It must not
+//! cite the model: a posting is columns here, numbers and texts.
 #![tactic(auto)]
 
 mod adding;

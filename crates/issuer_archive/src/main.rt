@@ -1,8 +1,8 @@
 //! The program of the archive: opens the database that its words name, hands it and the real outside to `archive`, and ends with the
 //! status that this answers.
 //!
-//! It may cite `iss_archive_run`, `iss_sql_keeper`, `iss_real`, the statuses of `iss_edge`, `sqlite` and std's streams.
-//! It must not cite the model: all that it decides is in `iss_archive_run`.
+//! It may cite `iss_archive_run`, `iss_sql_keeper`, `iss_real`, the statuses of `iss_edge`, `sqlite` and std's streams. It must
+//! not cite the model: all that it decides is in `iss_archive_run`.
 #![tactic(auto)]
 
 mod failure;

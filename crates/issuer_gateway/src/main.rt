@@ -1,8 +1,8 @@
 //! The program of the reference gateway: hands its words and the real outside to `serve_gateway`, and ends with the status that this
 //! answers.
 //!
-//! It may cite `iss_gateway_serve`, `iss_real`, the statuses of `iss_edge` and std's streams.
-//! It must not cite what a gateway decides: all of that is in `iss_gateway`.
+//! It may cite `iss_gateway_serve`, `iss_real`, the statuses of `iss_edge` and std's streams. It must not cite what a gateway
+//! decides: all of that is in `iss_gateway`.
 #![tactic(auto)]
 
 mod failure;
