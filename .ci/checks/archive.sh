@@ -109,32 +109,32 @@ sed '/VALUES (1, 7, 13, 7)/s/13, 7/7, 3/; /INSERT INTO post VALUES ([4-7],/d' "$
 archived "$room/device" "$room/lags.db" '{"posts":7,"records":13}' 'an archive that lags'
 rows "$room/lags.db" | cmp -s - "$room/rows" || fail 'an archive that lags: it has other rows than the example'
 
-# refused STATUS LINE DEVICE DB WHAT: a run ends so, writes nothing, and leaves the database's rows.
+# refused STATUS DEVICE DB WHAT: a run ends so, writes nothing, and leaves the database's rows.
 refused() {
-    rows "$4" >"$room/kept" 2>/dev/null || true
+    rows "$3" >"$room/kept" 2>/dev/null || true
     status=0
-    "$archive" archive "$3" "$4" </dev/null >"$room/out" 2>"$room/said" || status=$?
-    ended "$5" "$1" "issuer_archive: $2"
-    wrote "$5" /dev/null
-    { rows "$4" 2>/dev/null || true; } | cmp -s - "$room/kept" || fail "$5: it changed the rows"
+    "$archive" archive "$2" "$3" </dev/null >"$room/out" 2>"$room/said" || status=$?
+    ended "$4" "$1" ''
+    wrote "$4" /dev/null
+    { rows "$3" 2>/dev/null || true; } | cmp -s - "$room/kept" || fail "$4: it changed the rows"
 }
 
 issue format "$room/other" 100000 8
 ended 'another device' 0 ''
-refused 12 'the archive is of another device, or ahead of this one' "$room/other" "$room/db" 'another device'
-refused 4 'device is not an issuer device' "$room/none" "$room/db" 'a device that is not there'
+refused 12 "$room/other" "$room/db" 'another device'
+refused 4 "$room/none" "$room/db" 'a device that is not there'
 sqlite3 "$room/foreign.db" 'CREATE TABLE head (id INTEGER PRIMARY KEY) STRICT'
-refused 13 'archive fault' "$room/device" "$room/foreign.db" 'tables of others'
+refused 13 "$room/device" "$room/foreign.db" 'tables of others'
 sqlite3 "$room/above.db" <"$examples/example.sql"
 sqlite3 "$room/above.db" 'UPDATE head SET posts = 6'
-refused 13 'archive fault' "$room/device" "$room/above.db" 'a posting above the count'
-refused 13 'archive fault' "$room/device" "$room/no/such/folder" 'a database that cannot be made'
+refused 13 "$room/device" "$room/above.db" 'a posting above the count'
+refused 13 "$room/device" "$room/no/such/folder" 'a database that cannot be made'
 
 # unknown WORDS..: these words are no command.
 unknown() {
     status=0
     "$archive" "$@" </dev/null >"$room/out" 2>"$room/said" || status=$?
-    ended "the words '$*'" 2 'issuer_archive: usage: archive DEVICE DB, or statement DB USER CURRENCY FROM TO'
+    ended "the words '$*'" 2 ''
     wrote "the words '$*'" /dev/null
 }
 
@@ -143,9 +143,10 @@ unknown archive "$room/device"
 unknown statement "$room/db" u1 USD 1970-02-30 1970-03-01
 unknown statement "$room/db" u1 USD 2026-03-04 2026-03-03
 unknown statement "$room/db" u1 usd 2026-03-03 2026-03-04
+unknown statement "$room/db" -u1 USD 2026-03-03 2026-03-04
 status=0
 "$archive" statement "$room/foreign.db" u1 USD 2026-03-03 2026-03-04 </dev/null >"$room/out" 2>"$room/said" || status=$?
-ended 'a statement from tables of others' 13 'issuer_archive: archive fault'
+ended 'a statement from tables of others' 13 ''
 wrote 'a statement from tables of others' /dev/null
 
 # The sums of each report.

@@ -93,12 +93,12 @@ funded() {
 }
 
 words() {
-    local usage='issuer_gateway: usage: PORT TURNS MAX TOTAL' list
+    local list
     for list in '' '8000' '8000 1 1' '0 1 1 1' '65536 1 1 1' '8000 0 1 1' '8000 1000001 1 1' '8000 1 0 1' '8000 1 1 0' \
         '8000 1 1 1000000000001' '8000 1 01 1' '8000 1 1 1 1' '8000 1 1 -1'; do
         # shellcheck disable=SC2086
         refer $list
-        ended "the words '$list'" 2 "$usage"
+        ended "the words '$list'" 2 ''
     done
 }
 
@@ -139,7 +139,7 @@ requests() {
 ends() {
     local peer
     refer "$gateway_port" 1000 1 1
-    ended 'a port on which another program listens' 3 'issuer_gateway: input fault'
+    ended 'a port on which another program listens' 3 ''
     stopped
     attends 200
     exec {peer}<>"/dev/tcp/127.0.0.1/$gateway_port"

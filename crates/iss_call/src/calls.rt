@@ -116,13 +116,6 @@ impl Calls {
         self.rows.len() as u32
     }
 
-    /// How many calls are still asked.
-    pub fn asked_count(&self) -> usize
-        ensures { result ≡ length (filter is_asked self.now) }
-    {
-        self.orders.deadlines.len()
-    }
-
     /// The calls that are still asked, by number.
     pub fn asked(&self, alloc: Global) -> Result<Vec<CallId>, AllocError>
         ensures { IfOk result (λ v. v.items ≡ map (λ c. c.opened.call) (filter is_asked self.now)) }

@@ -1,5 +1,5 @@
 //! All transactions with what they hold.
-ghost use Rattle.std.specs.Prelude.{◌≡◌, ◌≤◌, ◌<◌, ◌^◌, ◌==◌, [], false, not, length, map, slice_get, IsSome, IfSome, Some, None, IfOk, OnOk, OnErr};
+ghost use Rattle.std.specs.Prelude.{◌≡◌, ◌<◌, ◌^◌, ◌==◌, [], false, not, length, map, slice_get, IsSome, IfSome, Some, None, IfOk, OnOk, OnErr};
 ghost use Rattle.std.specs.List.{list_any, IsDistinct};
 ghost use Rattle.std.specs.Str.{bytes_eq};
 ghost use Rattle.std.specs.Option.{option_map};
@@ -8,12 +8,12 @@ ghost use Rattle.iss_model.specs.state.Kept.{nothing_kept, kept_at};
 ghost use Rattle.iss_model.specs.rules.Activity.{txn_named};
 ghost use Rattle.iss_model.specs.rules.Facts.{not_below};
 ghost use Rattle.iss_model.specs.rules.Due.{txn_due, is_quiet};
-ghost use Rattle.iss_model.specs.rules.Pieces.{hold_entries, unhold_entries};
+ghost use Rattle.iss_model.specs.rules.Pieces.{hold_entries};
 ghost use Rattle.iss_model.specs.state.Cores.{with_txn, with_end};
 ghost use Rattle.iss_hold.specs.Bounds.{AreLow};
 ghost use Rattle.iss_hold.specs.Holdings.{txn_of_hold, tokens, parts_of_hold, whole_of};
 ghost use Rattle.iss_hold.specs.Indexes.{place_in};
-ghost use Rattle.iss_hold.specs.Entries.{live_now, after_holds, change_entries, IsHoldCovered, parts_in, cleared_parts, released_parts, taken_in_all, clearing_unhold_entries, release_unhold_entries};
+ghost use Rattle.iss_hold.specs.Entries.{after_holds, change_entries, IsHoldCovered, parts_in, cleared_parts, released_parts, taken_in_all, clearing_unhold_entries, release_unhold_entries};
 ghost use Rattle.iss_hold.specs.Expiries.{txns_due};
 ghost use Rattle.iss_hold.specs.Restoring.{with_carried};
 
@@ -122,13 +122,6 @@ impl Holds {
         self.get(txn).map(|hold| hold.txn)
     }
 
-    /// Whether a transaction was started and hasn't ended.
-    pub fn is_live(&self, txn: &Token) -> bool
-        ensures { result ≡ live_now (txn_named txn.now self.now.txns) }
-    {
-        self.get(txn).is_some_and(|hold| hold.live)
-    }
-
     /// Begins a transaction, which holds nothing yet. The later calls on it take no memory. If an allocation
     /// fails, all stays as it was, and so if 2^32 - 1 transactions stand, as many as places are kept for.
     pub fn start(&mut self, txn: &Txn) -> Result<(), AllocError>
@@ -161,17 +154,6 @@ impl Holds {
         let (place, hold) = self.table.hold_of(txn);
         let more = hold.with_more(part, amount);
         self.table.change(place, more);
-    }
-
-    /// Lets an amount of a part of a transaction go.
-    pub fn let_go(&mut self, txn: &Token, part: Part, amount: u64)
-        requires started { IsSome (txn_named txn.now self.old.txns) }
-        requires there { amount ≤ not_below (kept_at self.old.parts (part_key txn.now part)) }
-        ensures { self.new ≡ after_holds self.old txn.now (λ t. unhold_entries t part amount) }
-    {
-        let (place, hold) = self.table.hold_of(txn);
-        let less = hold.with_less(part, amount);
-        self.table.change(place, less);
     }
 
     /// Changes a part of a transaction by an amount, which is negative if it is let go.

@@ -1,5 +1,5 @@
 -- Names that are added to, and what stands at their places.
-use Rattle.std.proofs.Common.{◌≡◌, ℕ, zero, suc, List, [], ◌∷◌, ◌++◌, length, refl, sym, ◌∙◌, ap, ap₂, subst}
+use Rattle.std.proofs.Common.{◌≡◌, ℕ, zero, suc, List, [], ◌∷◌, ◌++◌, length, refl, sym, ◌∙◌, ap₂, subst}
 use Rattle.std.specs.Prelude.{Option, Some, None, Result, Ok, Err, OnOk, OnErr, IfOk, IsSome, slice_get}
 use Rattle.iss_index.specs.Places.{place_of}
 use Rattle.iss_index.specs.Grown.{IsGrown}

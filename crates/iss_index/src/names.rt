@@ -125,6 +125,7 @@ impl Names {
     /// If an allocation fails, all stays as it was, and so if 2^32 - 1 names stand and this isn't one of them.
     pub fn place_or_add(&mut self, name: &Token, near: usize) -> Result<u32, AllocError>
         ensures there { IfOk result (λ place. slice_get self.new place ≡ Some name.now) }
+        ensures found { IfSome (place_of name.now self.old) (λ place. result ≡ Ok place) }
         ensures with { OnOk result (self.new ≡ names_with name.now self.old) }
         ensures grown { IsGrown self.old self.new }
         ensures refused { OnErr result (self.new ≡ self.old) }

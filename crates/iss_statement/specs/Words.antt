@@ -1,5 +1,5 @@
 -- The words of a statement, and what they ask for.
-use Rattle.std.specs.Prelude.{ℕ, ℤ, int_le, List, [], ◌∷◌, map, String, string_bytes, Option, Some, None, if◌then◌else◌}
+use Rattle.std.specs.Prelude.{ℕ, ℤ, ◌==◌, ◌&&◌, not, int_le, Bool, List, [], ◌∷◌, map, slice_index, String, string_bytes, Option, Some, None, if◌then◌else◌}
 use Rattle.iss_model.specs.declared.currency.Currency.{Currency}
 use Rattle.iss_model.specs.Tokens.{is_token}
 use Rattle.iss_model.specs.Currencies.{currency_of}
@@ -14,10 +14,14 @@ asked_of user (Some currency) (Some first) None = None
 asked_of user (Some currency) None last = None
 asked_of user None first last = None
 
--- the same, if the user's name is a token
+-- whether a word names a user who can be asked for: a token that doesn't begin with `-`, as no word of a command does
+abbrev pub is_user : List ℕ → Bool
+is_user word = is_token word && not (slice_index word 0 == 45)
+
+-- the same, if the word for the user names one
 abbrev pub asked_by : List ℕ → List ℕ → List ℕ → List ℕ → Option StatementWords
 asked_by user currency from to =
-    if is_token user then asked_of user (currency_of currency) (day_of_date from) (day_of_date to) else None
+    if is_user user then asked_of user (currency_of currency) (day_of_date from) (day_of_date to) else None
 
 -- what the words USER, CURRENCY, FROM and TO ask for
 unfoldable pub asked_of_words : List (List ℕ) → Option StatementWords

@@ -1,6 +1,6 @@
 //! The words of a statement.
-ghost use Rattle.std.specs.Prelude.{◌≡◌};
-ghost use Rattle.iss_statement.specs.Words.{asked_by, asked_in};
+ghost use Rattle.std.specs.Prelude.{◌≡◌, Some, None, if◌then◌else◌};
+ghost use Rattle.iss_statement.specs.Words.{asked_by, asked_in, is_user};
 
 use crate::dates::day_of_date;
 use iss_amount::from_code;
@@ -19,7 +19,7 @@ pub struct StatementWords {
 
 /// What the words USER, CURRENCY, FROM and TO ask for.
 ///
-/// USER is a token, and CURRENCY the alphabetic code of a currency, such as `USD`. FROM and TO are dates `YYYY-MM-DD` of the
+/// USER is a token that doesn't begin with `-`, and CURRENCY the alphabetic code of a currency, such as `USD`. FROM and TO are dates `YYYY-MM-DD` of the
 /// calendar, from 1970-01-01 to 9998-12-31, and FROM isn't after TO. For other words it is `None`.
 #[tactic(auto, unfolding(crate::specs::Words::asked_of_words))]
 pub fn statement_words(words: &[String]) -> Option<StatementWords>
@@ -40,7 +40,7 @@ pub fn statement_words(words: &[String]) -> Option<StatementWords>
 fn asked_by(user: &[u8], currency: &[u8], from: &[u8], to: &[u8]) -> Option<StatementWords>
     ensures { result ≡ asked_by user.now currency.now from.now to.now }
 {
-    let user = Token::new(user)?;
+    let user = user_in(user)?;
     let currency = from_code(currency)?;
     let from = day_of_date(from)?;
     let to = day_of_date(to)?;
@@ -53,4 +53,12 @@ fn asked_by(user: &[u8], currency: &[u8], from: &[u8], to: &[u8]) -> Option<Stat
         from,
         to,
     })
+}
+
+/// The user whom a word names.
+fn user_in(word: &[u8]) -> Option<Token>
+    ensures { result ≡ (if is_user word.now then Some word.now else None) }
+{
+    let user = Token::new(word)?;
+    (word[0] != b'-').then_some(user)
 }

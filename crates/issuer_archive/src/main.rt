@@ -5,9 +5,6 @@
 //! not cite the model: all that it decides is in `iss_archive_run`.
 #![tactic(auto)]
 
-mod failure;
-
-use failure::failure_of;
 use iss_archive_run::{Command, archive, command_of};
 use iss_edge::status::{OUT_OF_MEMORY, USAGE};
 use iss_real::{Device, RealEdge, Sockets, words_of};
@@ -28,10 +25,6 @@ fn main(rt: HostRuntime) -> ExitCode {
         // A word that is not text belongs to no command.
         Err(_) => USAGE,
     };
-    if let Some(failure) = failure_of(status) {
-        // If standard error fails too, only the status tells.
-        let _ = eprintln!(rt; "{failure}");
-    }
     ExitCode::from(status)
 }
 

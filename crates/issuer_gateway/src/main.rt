@@ -5,9 +5,6 @@
 //! decides: all of that is in `iss_gateway`.
 #![tactic(auto)]
 
-mod failure;
-
-use failure::failure_of;
 use iss_edge::status::{OUT_OF_MEMORY, USAGE};
 use iss_gateway_serve::{serve_gateway, service_of};
 use iss_real::{Device, RealEdge, Sockets, words_of};
@@ -21,10 +18,6 @@ fn main(rt: HostRuntime) -> ExitCode {
         // A word that is not text is no number.
         Err(_) => USAGE,
     };
-    if let Some(failure) = failure_of(status) {
-        // If standard error fails too, only the status tells.
-        let _ = eprintln!(rt; "{failure}");
-    }
     ExitCode::from(status)
 }
 
