@@ -29,7 +29,8 @@ use Rattle.iss_model.proofs.Lists.{map-alike, map-map, map-where}
 use Rattle.iss_model.proofs.KeptSums.{kept-alike}
 use Rattle.iss_agreement.proofs.Standing.{Bounds, is_group_known, is_row_standing, is_standing}
 use Rattle.iss_agreement.proofs.Growing.{row_of, made-none, last_named, last_named-more, last_named-own}
-use Rattle.iss_agreement.proofs.KeptLists.{AreStanding, its_entry, put-again, put-first, any-map}
+use Rattle.iss_agreement.proofs.KeptLists.{put-again, put-first, any-map}
+use Rattle.iss_agreement.proofs.KeptParties.{AreStanding, its_entry}
 
 pub kept-more : (f : Entry → List Change) (rows : List Row) (n : ℕ) (e : Entry) → kept_of f (rows ++ row_of n e) ≡ after_changes (kept_of f rows) (f e)
 kept-more f rows n e = fold-append (λ (sums : Kept) (row : Row). after_changes sums (f row.entry)) nothing_kept rows (row_of n e)

@@ -16,7 +16,8 @@ use Rattle.iss_model.specs.state.Cores.{CoreState, after_entry, with_post}
 use Rattle.iss_agreement.specs.Shown.{shown_state, kept_part_changes, kept_held_changes}
 use Rattle.iss_agreement.proofs.Standing.{Bounds, IsStanding}
 use Rattle.iss_agreement.proofs.Growing.{row_of, made-none}
-use Rattle.iss_agreement.proofs.KeptLists.{IsNew, users_after, users-more, cards_after, cards-more, products_after, products-more, txns_after, txns-more, calls_after, calls-more, outbox_after, outbox-more, sets_after, sets-more}
+use Rattle.iss_agreement.proofs.KeptLists.{txns_after, txns-more, calls_after, calls-more, outbox_after, outbox-more, sets_after, sets-more}
+use Rattle.iss_agreement.proofs.KeptParties.{IsNew, users_after, users-more, cards_after, cards-more, products_after, products-more}
 use Rattle.iss_agreement.proofs.Counting.{kept-more, controls_after, controls-more}
 
 -- a history with one more row of its last record

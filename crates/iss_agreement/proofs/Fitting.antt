@@ -24,7 +24,8 @@ use Rattle.iss_agreement.specs.Shown.{shown_state}
 use Rattle.iss_model.proofs.Lists.{all_weaker, any_grows}
 use Rattle.iss_agreement.proofs.Standing.{Bounds, bounds_of, IsFit, AreFit, IsSettable, Fit, is_user_made, is_card_made, is_product_made, is_begun, is_standing, is_row_standing, IsStanding}
 use Rattle.iss_agreement.proofs.Growing.{row_of}
-use Rattle.iss_agreement.proofs.KeptLists.{IsNew, any-map}
+use Rattle.iss_agreement.proofs.KeptLists.{any-map}
+use Rattle.iss_agreement.proofs.KeptParties.{IsNew}
 use Rattle.iss_agreement.proofs.Counting.{AreScopesKnown}
 use Rattle.iss_agreement.proofs.Entering.{with_row, entered-shown}
 use Rattle.iss_agreement.proofs.StayStanding.{Passes, row-grows, product_grows, le_true, is-some-find, stays-standing}

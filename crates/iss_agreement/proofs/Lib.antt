@@ -2,6 +2,7 @@ pub mod Keepers
 pub mod Reacting
 pub mod Standing
 pub mod Growing
+pub mod KeptParties
 pub mod KeptLists
 pub mod Counting
 pub mod Entering

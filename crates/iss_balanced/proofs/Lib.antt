@@ -1,4 +1,5 @@
 pub mod Shares
+pub mod ShareSums
 pub mod SharePieces
 pub mod ShareActs
 pub mod Loads

@@ -39,7 +39,7 @@ use Rattle.iss_states.proofs.SetSteps.{now_decided, undecided}
 use Rattle.iss_well_formed.proofs.DoneSums.{done_of, worth_if}
 use Rattle.iss_balanced.specs.Owed.{loaded_in, loaded_to}
 use Rattle.iss_balanced.proofs.Shares.{user_test}
-use Rattle.iss_balanced.proofs.SharePieces.{load_changes}
+use Rattle.iss_balanced.proofs.ShareSums.{load_changes}
 
 -- what the loads that are done among accepted events give to an account
 abbrev pub loads_of : List Decision → List Accepted → Account → ℤ

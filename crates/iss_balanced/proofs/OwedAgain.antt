@@ -40,7 +40,7 @@ use Rattle.iss_balanced.proofs.ListedInOrder.{AddUp, order_shown, sum_shown}
 use Rattle.iss_balanced.proofs.OwedSteps.{Owes, kept_of_txn}
 use Rattle.iss_balanced.proofs.ReadKeys.{AreRead, balance_again, balance_shown, named_shown}
 use Rattle.iss_balanced.proofs.Shares.{Amounts, amounts_of, share, share_is}
-use Rattle.iss_balanced.proofs.SharePieces.{over}
+use Rattle.iss_balanced.proofs.ShareSums.{over}
 
 -- transactions in pairs ----
 

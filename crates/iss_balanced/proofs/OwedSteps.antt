@@ -49,7 +49,7 @@ use Rattle.iss_balanced.specs.Owed.{loaded_in, loaded_to}
 use Rattle.iss_balanced.proofs.Loads.{due_loads, loads_of, loads_with, own_loads}
 use Rattle.iss_balanced.proofs.ShareActs.{input_adds, thing_adds}
 use Rattle.iss_balanced.proofs.Shares.{Amounts, share}
-use Rattle.iss_balanced.proofs.SharePieces.{Adds, added, load_changes, moved_among, nothing_of, over, over_added, over_same, share_nothing}
+use Rattle.iss_balanced.proofs.ShareSums.{Adds, added, load_changes, moved_among, nothing_of, over, over_added, over_same, share_nothing}
 
 -- what entries do to sums ----
 

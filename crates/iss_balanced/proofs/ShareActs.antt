@@ -43,7 +43,8 @@ use Rattle.iss_state.proofs.held.Begun.{begun_stands, first_unnamed}
 use Rattle.iss_state.proofs.held.Inputs.{due_ready, input_ready}
 use Rattle.iss_states.specs.Fairness.{changed_among}
 use Rattle.iss_states.proofs.Found.{entry_keeps}
-use Rattle.iss_balanced.proofs.SharePieces.{Adds, Gaps, IsAmong, as_gap, both_add, both_gap, from_gateway, from_network, from_programme, is_still, less_held, load_changes, more_held, no_gap, none_adds, over_nothing, still_adds, to_gateway, to_have, to_network, to_programme, unless}
+use Rattle.iss_balanced.proofs.SharePieces.{from_gateway, from_network, from_programme, less_held, more_held, to_gateway, to_have, to_network, to_programme, unless}
+use Rattle.iss_balanced.proofs.ShareSums.{Adds, Gaps, IsAmong, as_gap, both_add, both_gap, is_still, load_changes, no_gap, none_adds, over_nothing, still_adds}
 
 -- transactions stay ----
 

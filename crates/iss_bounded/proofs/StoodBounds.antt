@@ -27,7 +27,7 @@ use Rattle.iss_state.specs.Pending.{IsWell}
 use Rattle.iss_state.specs.Sound.{IsNewEvent}
 use Rattle.iss_state.proofs.calls.Steps.{step_well}
 use Rattle.iss_state.proofs.docket.Lists.{both_so}
-use Rattle.iss_rebuilt.proofs.HeldKept.{nothing_at}
+use Rattle.iss_rebuilt.proofs.HeldKeys.{nothing_at}
 use Rattle.iss_state.proofs.invariants.NewEvents.{judged_new}
 use Rattle.iss_states.specs.Order.{IsNewOnState}
 use Rattle.iss_states.specs.Rebuilding.{rebuilt, stood_sum}

@@ -27,7 +27,7 @@ use Rattle.iss_state.proofs.calls.Steps.{due_allowed, own_allowed, ready_settled
 use Rattle.iss_state.proofs.effects.Effects.{setting_calls}
 use Rattle.iss_state.proofs.effects.Finds.{number_is}
 use Rattle.iss_state.proofs.invariants.OwnEntries.{most_amount}
-use Rattle.iss_rebuilt.proofs.HeldKept.{nothing_at}
+use Rattle.iss_rebuilt.proofs.HeldKeys.{nothing_at}
 use Rattle.iss_bounded.specs.Bounds.{asked_worth}
 use Rattle.iss_bounded.proofs.AskSizes.{ask_small}
 use Rattle.iss_bounded.proofs.AskedWorth.{Knows, worth_after_close, worth_with_opened}

@@ -12,4 +12,5 @@ pub mod Clearings
 pub mod Endings
 pub mod SettingsAgain
 pub mod CoreAgain
+mod ShownKeys
 mod ShownParts

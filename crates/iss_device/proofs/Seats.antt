@@ -8,7 +8,8 @@ use Rattle.iss_halves.specs.Forms.{Form, Seat}
 use Rattle.iss_halves.specs.Halves.{IsHalvesSize, half_start, half_region, HoldsHalf}
 use Rattle.iss_halves.specs.Standing.{HoldsOf, JournalHolds}
 use Rattle.iss_halves.proofs.Turns.{below_length}
-use Rattle.iss_halves.proofs.Openings.{shown_front, held_has_layout, held_once, one_form}
+use Rattle.iss_halves.proofs.Openings.{one_form}
+use Rattle.iss_halves.proofs.FoundHalves.{shown_front, held_has_layout, held_once}
 use Rattle.iss_standing.specs.Standing.{IsForm}
 
 -- what a device shows at two seats, with what else holds of each

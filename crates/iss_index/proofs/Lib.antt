@@ -1,3 +1,4 @@
 pub mod Placed
+pub mod Slots
 pub mod Hashed
 pub mod Grown

@@ -3,6 +3,7 @@ pub mod Fresh
 pub mod InTurn
 pub mod ListedAs
 pub mod Numbered
+pub mod OneSetting
 pub mod OneEvent
 pub mod ReadBack
 pub mod ReadBy

@@ -33,7 +33,8 @@ use Rattle.iss_well_formed.specs.Events.{is_marked_well, may_stand}
 use Rattle.iss_known.specs.Known.{IsKnownOf, KnownNow}
 use Rattle.iss_known.specs.Reading.{ask_known, is_of_call, known_after, known_from, live_among, makes_its_call, settled_known}
 use Rattle.iss_known.proofs.Firsts.{mapped_or}
-use Rattle.iss_known.proofs.OneEvent.{asks_same, counted, event_known, settled_core, settled_too}
+use Rattle.iss_known.proofs.OneEvent.{asks_same, counted, event_known}
+use Rattle.iss_known.proofs.OneSetting.{settled_core, settled_too}
 
 -- an event's token
 abbrev pub token_of : Seen → List ℕ

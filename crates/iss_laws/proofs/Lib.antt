@@ -20,10 +20,12 @@ pub mod OwnPieces
 pub mod OwnInputs
 pub mod OwnBalances
 pub mod Windows
+pub mod OpenCalls
 pub mod OpenUse
 pub mod OpenPieces
 pub mod OpenInputs
 pub mod UsesWell
 pub mod RuledRecords
+pub mod ApprovedRulings
 pub mod ApprovedRecords
 pub mod PricesOfActs

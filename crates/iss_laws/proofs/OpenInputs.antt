@@ -48,7 +48,8 @@ use Rattle.iss_state.proofs.held.Begun.{authorization_stamp, begun_stands, first
 use Rattle.iss_state.proofs.held.Inputs.{due_ready, input_ready}
 use Rattle.iss_state.proofs.held.Pieces.{HoldsJust, abandoned_calm, calm_leaves, clearing_leaves, its_parts}
 use Rattle.iss_laws.proofs.OpenPieces.{abandoned_txns, abandonment_pays, ask_within, asked_again, clearing_pays, declined_within, free_first, free_last, funded_within, hold_for, knows_after, paid_within, part_funded_within, post_free, release_pays, silent_calls, silent_txns}
-use Rattle.iss_laws.proofs.OpenUse.{Counting, IsCounting, IsOfThese, Knows, Pays, Within, begin_pays, both_within, close_within, free_pays, open_within, opens, weaker, head_none}
+use Rattle.iss_laws.proofs.OpenUse.{Pays, Within, begin_pays, both_within, close_within, free_pays, open_within, weaker}
+use Rattle.iss_laws.proofs.OpenCalls.{Counting, IsCounting, IsOfThese, Knows, opens, head_none}
 
 -- a transaction of the facts is known
 knows_of_facts : (s : CoreState) (t : Txn) → HaveOwnTokens s.holdings.txns → IsTxnOf (core_facts s) t → Knows s.holdings.txns t

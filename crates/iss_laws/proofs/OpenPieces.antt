@@ -35,7 +35,8 @@ use Rattle.iss_state.proofs.docket.Docketed.{AreSilent, abandoned_docketed, both
 use Rattle.iss_state.proofs.docket.Lists.{Each}
 use Rattle.iss_state.proofs.calls.Staying.{comes_to}
 use Rattle.iss_state.proofs.held.Pieces.{HoldsJust, Leaves, amount_of, calm_leaves, its_amount, let_go, post_calm, then_leaves, without}
-use Rattle.iss_laws.proofs.OpenUse.{Counting, IsCounting, Knows, Pays, Within, both_pay, both_within, close_within, free_pays, hold_within, holds_there, is_free, opens, unhold_within, usage_within, weaker}
+use Rattle.iss_laws.proofs.OpenUse.{Pays, Within, both_pay, both_within, close_within, free_pays, hold_within, is_free, unhold_within, usage_within, weaker}
+use Rattle.iss_laws.proofs.OpenCalls.{Counting, IsCounting, Knows, holds_there, opens}
 
 -- entries without anything to count ----
 

@@ -39,7 +39,8 @@ use Rattle.iss_model.proofs.Names.{one_name}
 use Rattle.iss_laws.specs.Uses.{counts_txn_well, counts_well, has_counted_well, is_use, use_is_not_negative, used_of}
 use Rattle.iss_laws.proofs.HoldsWell.{is_not_negative}
 use Rattle.iss_laws.proofs.OpenInputs.{CountsOn, input_uses, thing_uses}
-use Rattle.iss_laws.proofs.OpenUse.{Counting, IsCounting, Pays, is_usage, open_use, used}
+use Rattle.iss_laws.proofs.OpenUse.{Pays}
+use Rattle.iss_laws.proofs.OpenCalls.{Counting, IsCounting, is_usage, open_use, used}
 use Rattle.iss_agreement.proofs.Records.{history_more}
 use Rattle.iss_agreement.proofs.StepSums.{among_summed}
 use Rattle.iss_laws.proofs.Rows.{next_summed}

@@ -10,7 +10,8 @@ use Rattle.iss_halves.specs.Finding.{HasKind, HoldsImage, TooLong, ImageOf, HasL
 use Rattle.iss_halves.specs.Making.{HasNoHeader}
 use Rattle.iss_halves.specs.Opening.{IsFound, IsSame}
 use Rattle.iss_halves.proofs.Standings.{length-header}
-use Rattle.iss_halves.proofs.Openings.{found_holds, held_has_layout, held_is_found, not_too_long, one_form}
+use Rattle.iss_halves.proofs.Openings.{one_form}
+use Rattle.iss_halves.proofs.FoundHalves.{found_holds, held_has_layout, held_is_found, not_too_long}
 use Rattle.iss_standing.specs.Standing.{IsForm}
 
 -- ---- one journal, or halves

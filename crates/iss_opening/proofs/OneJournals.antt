@@ -7,7 +7,7 @@ use Rattle.iss_journal.proofs.ReadLemmas.{reads_to_the_end}
 use Rattle.iss_halves.specs.Forms.{Layout, form_of, seat_at}
 use Rattle.iss_halves.specs.Standing.{JournalHolds}
 use Rattle.iss_halves.specs.Finding.{found_region}
-use Rattle.iss_halves.proofs.Openings.{found_holds}
+use Rattle.iss_halves.proofs.FoundHalves.{found_holds}
 use Rattle.iss_model.specs.declared.input.Record.{Record}
 use Rattle.iss_model.specs.declared.limits.TheConstants.{MOST_RECORDS}
 use Rattle.iss_core.specs.Values.{CoreNow, CoreStandsFor}

@@ -16,7 +16,8 @@ use Rattle.iss_halves.specs.Standing.{Saved, JournalHolds}
 use Rattle.iss_halves.specs.Finding.{found_region}
 use Rattle.iss_halves.specs.Opening.{IsRead, IsPoint}
 use Rattle.iss_halves.proofs.Standings.{at}
-use Rattle.iss_halves.proofs.Openings.{found_holds, openings_keep, openings_go_on}
+use Rattle.iss_halves.proofs.Openings.{openings_keep, openings_go_on}
+use Rattle.iss_halves.proofs.FoundHalves.{found_holds}
 use Rattle.iss_model.specs.declared.input.Record.{Record}
 use Rattle.iss_model.specs.declared.limits.TheConstants.{MOST_RECORDS}
 use Rattle.iss_core.specs.Values.{CoreNow, CoreStandsFor}

@@ -13,7 +13,7 @@ use Rattle.iss_halves.specs.Forms.{Layout}
 use Rattle.iss_halves.specs.Standing.{gate_after, end_of}
 use Rattle.iss_halves.specs.Finding.{found_region}
 use Rattle.iss_halves.specs.Opening.{IsFound}
-use Rattle.iss_halves.proofs.Openings.{found_may_begin}
+use Rattle.iss_halves.proofs.FoundHalves.{found_may_begin}
 use Rattle.iss_model.specs.declared.input.Record.{Record}
 use Rattle.iss_model.specs.declared.limits.TheConstants.{MOST_RECORDS}
 use Rattle.iss_model.specs.texts.Spelling.{is_record}

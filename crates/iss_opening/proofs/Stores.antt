@@ -4,7 +4,7 @@ use Rattle.std.proofs.lemmas.List.{take-append-drop}
 use Rattle.iss_journal.specs.Region.{frames}
 use Rattle.iss_halves.specs.Forms.{Form, Seat, form_of, seat_at}
 use Rattle.iss_halves.specs.Standing.{EndsHere, gate_after}
-use Rattle.iss_halves.proofs.Openings.{found_may_begin}
+use Rattle.iss_halves.proofs.FoundHalves.{found_may_begin}
 use Rattle.iss_model.specs.declared.input.Record.{Record}
 use Rattle.iss_core.specs.Values.{CoreNow, CoreStandsFor}
 use Rattle.iss_standing.specs.Standing.{bodies_of, image_after, saved_of, DeviceStandsFor}

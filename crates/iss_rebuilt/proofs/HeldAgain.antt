@@ -45,7 +45,8 @@ use Rattle.iss_states.specs.Rebuilding.{held_sums, part_sums}
 use Rattle.iss_states.specs.Showing.{carried_in, shown}
 use Rattle.iss_states.proofs.FairSteps.{nothing_fair, step_fair}
 use Rattle.iss_rebuilt.specs.Purchases.{HasHeldAgain, HasPartsAgain, HasTxnSumsAgain, HasTxnsAgain}
-use Rattle.iss_rebuilt.proofs.HeldKept.{IsNotNegative, IsOfBegun, IsSummed, entries_summed, has_key, has_part_key, held_of, holder, keys_after, nothing_at, nothing_has, nothing_summed, whole}
+use Rattle.iss_rebuilt.proofs.HeldKept.{entries_summed, nothing_summed}
+use Rattle.iss_rebuilt.proofs.HeldKeys.{IsNotNegative, IsOfBegun, IsSummed, has_key, has_part_key, held_of, holder, keys_after, nothing_at, nothing_has, whole}
 use Rattle.iss_rebuilt.proofs.MadeShown.{own_found}
 use Rattle.iss_rebuilt.proofs.MadeSteps.{legal_txns_rebuilt}
 

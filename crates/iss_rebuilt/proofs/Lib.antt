@@ -11,7 +11,9 @@ pub mod ControlsAgain
 pub mod Made
 pub mod MadeShown
 pub mod MadeEntries
+pub mod MadeWords
 pub mod MadeSteps
 pub mod AlikeAgain
+pub mod HeldKeys
 pub mod HeldKept
 pub mod HeldAgain

@@ -10,7 +10,7 @@ use Rattle.iss_state.specs.Bounds.{IsWithin}
 use Rattle.iss_state.specs.Well.{HaveOwnTokens}
 use Rattle.iss_state.proofs.docket.Lists.{Each}
 use Rattle.iss_states.specs.Rebuilding.{held_sums, kept_by}
-use Rattle.iss_rebuilt.proofs.HeldKept.{nothing_at}
+use Rattle.iss_rebuilt.proofs.HeldKeys.{nothing_at}
 use Rattle.iss_well_formed.proofs.FairAgain.{got}
 use Rattle.iss_noticed.specs.Commitments.{held_together}
 use Rattle.iss_chain.specs.Entering.{IsChainSmall}

@@ -31,7 +31,7 @@ use Rattle.iss_state.specs.Stakes.{IsOrderlyState, are_distinct, at_stake, total
 use Rattle.iss_state.proofs.docket.Lists.{Each, both_so}
 use Rattle.iss_state.proofs.effects.Finds.{found_passes}
 use Rattle.iss_states.specs.Rebuilding.{events_again, held_sums, kept_by, part_sums, rebuilt, stood_sum, with_counters}
-use Rattle.iss_rebuilt.proofs.HeldKept.{nothing_at}
+use Rattle.iss_rebuilt.proofs.HeldKeys.{nothing_at}
 use Rattle.iss_well_formed.specs.Again.{listed, standing}
 use Rattle.iss_well_formed.proofs.FairAgain.{found_at, got}
 use Rattle.iss_well_formed.proofs.HeldAgain.{held_again}

@@ -2,6 +2,7 @@ pub mod FewAccounts
 pub mod RisingKeys
 pub mod Owing
 pub mod Nothing
+pub mod MovesEach
 pub mod MovesTotal
 pub mod TakenOut
 pub mod AddingUp

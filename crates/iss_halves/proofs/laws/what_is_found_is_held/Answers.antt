@@ -1,4 +1,5 @@
-use Rattle.iss_halves.proofs.Openings.{found_may_begin, held_is_found, held_has_layout, not_too_long, held_once, openings_keep, openings_go_on, one_form}
+use Rattle.iss_halves.proofs.Openings.{openings_keep, openings_go_on, one_form}
+use Rattle.iss_halves.proofs.FoundHalves.{found_may_begin, held_is_found, held_has_layout, not_too_long, held_once}
 use Rattle.iss_halves.proofs.laws.what_is_found_is_held.Goals as goal
 
 pub returns-clause-begins : goal.returns-clause-begins

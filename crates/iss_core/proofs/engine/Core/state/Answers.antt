@@ -1,6 +1,6 @@
 use Rattle.std.proofs.Common.{ap}
 use Rattle.iss_core.specs.States.{kept_state}
-use Rattle.iss_core.proofs.ShownParts.{state_told}
+use Rattle.iss_core.proofs.ShownKeys.{state_told}
 use Rattle.iss_core.proofs.engine.Core.state.Goals as goal
 
 pub returns-clause-on_book : goal.returns-clause-on_book

@@ -1,4 +1,4 @@
-use Rattle.iss_core.proofs.ShownParts.{balances_told}
+use Rattle.iss_core.proofs.ShownKeys.{balances_told}
 use Rattle.iss_core.proofs.state.State.balances_shown.Goals as goal
 
 pub returns : goal.returns

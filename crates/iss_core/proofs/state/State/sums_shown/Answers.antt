@@ -1,4 +1,4 @@
-use Rattle.iss_core.proofs.ShownParts.{sums_told}
+use Rattle.iss_core.proofs.ShownKeys.{sums_told}
 use Rattle.iss_core.proofs.state.State.sums_shown.Goals as goal
 
 pub returns : goal.returns
