@@ -110,8 +110,6 @@ module _ (token : ℕ → List ℕ) (rs : List Record) (tokens : (m n : ℕ) →
       let r = any_among (λ (r : Record). acks number r.input) rs (book.acked number h) in
       backs_acked number r.0.input r.2 (each_among (λ (r : Record). IsBacked token rows b r.input) r.0 rs backed r.1)
 
-  -- voids ----
-
   -- what voids a call's token is of a notice that names the call
   voided_named : (n : ℕ) → n ≤ length rs → is_voided b (token n) ≡ true → some_names n (notices_of rows) ≡ true
   voided_named n few h =
