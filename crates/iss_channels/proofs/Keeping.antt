@@ -13,7 +13,7 @@ use Rattle.iss_edge.specs.declared.outside.Channel.{Channel}
 use Rattle.iss_channels.specs.Places.{has, Puts, IsFirst, passes, AreFound}
 use Rattle.iss_channels.specs.Placed.{Placed, is_on, one_more, things_of, IsKept, Takes, ChangesFirst}
 use Rattle.iss_channels.proofs.Lookups.{none_below, more_looks, less_looks, less_below, more_below, goes_last, values_push, StandsFirst, stands_first, none_stands, looked, first_found, changes_first, others_stay, all_stay}
-use Rattle.iss_channels.proofs.Places.{more_found, less_found, back_found, still_found}
+use Rattle.iss_channels.proofs.FoundPlaces.{more_found, less_found, back_found, still_found}
 
 module _ {T : Type 0} (channel_of : T → Channel) (next : ℕ) (things : BTreeMap ℕ T) (places : List (ℕ × ℕ)) (kept : IsKept channel_of next things places) where
   module _ (ch : Channel) where

@@ -1,5 +1,5 @@
 pub mod Firsts
-pub mod Places
+pub mod FoundPlaces
 pub mod Lookups
 pub mod Keeping
 pub mod Changes

@@ -11,7 +11,7 @@ use Rattle.std.specs.BTreeMap.{insert_entry, is_at}
 use Rattle.std.specs.Map.{keys_of, values_of, lookup, remove_entry, set_value}
 use Rattle.iss_channels.specs.Places.{passes}
 use Rattle.iss_channels.specs.Placed.{ChangesFirst}
-use Rattle.iss_channels.proofs.Places.{same_number, itself, turned, apart_below, is_above, less_is, is_greater}
+use Rattle.iss_channels.proofs.FoundPlaces.{same_number, itself, turned, apart_below, is_above, less_is, is_greater}
 
 -- ---- what stands at a place
 

@@ -11,7 +11,7 @@ use Rattle.iss_edge.specs.declared.outside.Channel.{Channel}
 use Rattle.iss_channels.specs.Places.{Puts, IsFirst, has, AreFound}
 use Rattle.iss_channels.specs.Placed.{Placed, ArePlaced, Takes, things_of, thing_at, one_more}
 use Rattle.iss_channels.proofs.Lookups.{more_looks, less_looks, none_below, stands_first, none_stands, looked, first_found, none_found, all_stay, others_stay}
-use Rattle.iss_channels.proofs.Places.{more_found, less_found, back_found}
+use Rattle.iss_channels.proofs.FoundPlaces.{more_found, less_found, back_found}
 use Rattle.iss_session.specs.Desks.{Waiter, waiters_without}
 use Rattle.iss_session.specs.Hearings.{is_waiting}
 use Rattle.iss_session.specs.Sessions.{waiter_for}
