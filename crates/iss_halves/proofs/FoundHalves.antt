@@ -17,7 +17,7 @@ use Rattle.iss_halves.proofs.Standings.{length-header}
 -- ---- what was found stands below the journal
 
 module _ (instance size : ℕ) (second : Bool) (image device : List ℕ) (whole : size ≡ length device) (has : HasHalves device instance) (holds : HoldsImage size second image device) where
-  abbrev to_journal : ℕ
+  abbrev pub to_journal : ℕ
   to_journal = half_start size second + (4 + length image)
 
   inside_is : half_start size second + half_size size ≤ length device

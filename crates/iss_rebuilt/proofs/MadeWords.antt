@@ -148,9 +148,9 @@ other_call O k o other = ap is_some (find-append (λ (o : Opened). bytes_eq o.ev
     by None = refl
 
 -- an ask of an event of this token
-record IsAskOf (token : List ℕ) (ask : Ask) : Type 0 where
+pub record IsAskOf (token : List ℕ) (ask : Ask) : Type 0 where
   pub event : ask.event ≡ token
-  named : ask.is_first ≡ true → ask.txn.token ≡ token
+  pub named : ask.is_first ≡ true → ask.txn.token ≡ token
 
 module _ (T : List Txn) (token : List ℕ) (ask : Option Ask) (of_token : (x : Ask) → ask ≡ Some x → IsAskOf token x) where
   -- what is begun is begun by the words after it

@@ -41,9 +41,9 @@ all_total moves [] = 0
 all_total moves (x ∷ xs) = moved_total (moves x) + all_total moves xs
 
 -- each balance is at most this, above 0 or below
-record IsWithin (n : ℕ) (m : Kept) : Type 0 where
-  low : (key : List ℕ) → neg_ℤ (pos n) ≤ℤ kept_at m key
-  high : (key : List ℕ) → kept_at m key ≤ℤ pos n
+pub record IsWithin (n : ℕ) (m : Kept) : Type 0 where
+  pub low : (key : List ℕ) → neg_ℤ (pos n) ≤ℤ kept_at m key
+  pub high : (key : List ℕ) → kept_at m key ≤ℤ pos n
 
 within_small : (n : ℕ) (m : Kept) → IsWithin n m → n < 2 ^ 62 → AreSmall m
 within_small n m h few key = one (kept_at m key) (h.low key) (h.high key)
@@ -118,11 +118,11 @@ nothing_within = record { low = λ key. low (kept_at nothing_kept key) (none key
 -- what one transaction moves ----
 
 -- what an event clears of a transaction, or was approved for
-abbrev weight : List ℕ → Seen → ℕ
+abbrev pub weight : List ℕ → Seen → ℕ
 weight token e = cond (is_done e.verdict) (cleared_amount token e.body.input) 0 + approved_for token e.verdict e.body.input
 
 -- so all these events
-abbrev weight_total : List ℕ → List Seen → ℕ
+abbrev pub weight_total : List ℕ → List Seen → ℕ
 weight_total token [] = 0
 weight_total token (e ∷ es) = weight token e + weight_total token es
 
