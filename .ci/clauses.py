@@ -1,15 +1,36 @@
 #!/usr/bin/env python3
 """Writes the table of clauses: each public call of each crate with what stands above it, and each of its clauses, as Markdown.
 
-`clauses.py` takes all crates of `crates.txt`, `clauses.py CRATE` one.
+Below a call comes what docs/laws.txt says of it. `clauses.py` takes all crates of `crates.txt`, `clauses.py CRATE` one.
 """
 
+import re
 import sys
 from itertools import groupby
 
-from sources import CRATES, calls_of, crate_order, exported_names, is_exported
+from sources import CRATES, ROOT, calls_of, crate_order, exported_names, is_exported
 
 UNNAMED = "(unnamed)"
+LAWS = "docs/laws.txt"
+LAW = re.compile(r"(\w+) ([\w:]+)(?: (\w+))?: (.+)")
+
+
+def read_laws():
+    """Returns what the file of laws says: each crate and call with the clauses that are meant, and the sentences."""
+    laws = {}
+    for line in (ROOT / LAWS).read_text().splitlines():
+        found = LAW.fullmatch(line)
+        if found:
+            laws.setdefault((found[1], found[2]), []).append((found[3] or "", found[4]))
+        elif line and not line.startswith("#"):
+            sys.exit(f"{LAWS} has a line of another form: {line}")
+    return laws
+
+
+def without_call(laws, shown):
+    """Returns what the file of laws names and no crate shows: a call, or a clause of one."""
+    named = [(*key, clause) for key, said in laws.items() for clause, _ in said]
+    return [" ".join(key).rstrip() for key in named if key not in shown]
 
 
 def heading(crate):
@@ -33,20 +54,32 @@ def groups(clauses):
     return [list(group) for _, group in groupby(clauses, key=lambda clause: clause.comment)]
 
 
-def rows(call):
-    """Returns a call's lines: its own with all of its clauses, and one for each group of clauses that has a comment."""
+def rows(call, said):
+    """Returns a call's lines: its own with all of its clauses, one for each group that has a comment, and what else is said of it."""
     promises = [clause for clause in call.clauses if clause.kind == "ensures"]
     needs = "yes" if len(promises) < len(call.clauses) else ""
     path = call.path.relative_to(CRATES / call.crate)
     commented = [group for group in groups(promises) if group[0].comment]
     own = f"| `{call.title()}` | {names(promises)} | {needs} | {cell(call.comment)} | `{path}` |"
-    return [own] + [f"| | {names(group)} | | {cell(group[0].comment)} | |" for group in commented]
+    further = [f"| | {f'`{clause}`' if clause else ''} | | {cell(text)} | `{LAWS}` |" for clause, text in said]
+    return [own] + [f"| | {names(group)} | | {cell(group[0].comment)} | |" for group in commented] + further
 
 
-def table(crate):
-    """Returns a crate's part: its heading, and the lines of its public calls, or nothing if it has none."""
+def public_calls(crate):
     shown = exported_names(crate)
-    lines = [line for call in calls_of(crate) if is_exported(call, shown) for line in rows(call)]
+    return [call for call in calls_of(crate) if is_exported(call, shown)]
+
+
+def public_clauses(crates):
+    """Returns each public call with no clause and with each of its clauses, as laws name them."""
+    calls = [(crate, call) for crate in crates for call in public_calls(crate)]
+    clauses = {(crate, call.title(), clause.name) for crate, call in calls for clause in call.clauses}
+    return clauses | {(crate, call.title(), "") for crate, call in calls}
+
+
+def table(crate, laws):
+    """Returns a crate's part: its heading, and the lines of its public calls, or nothing if it has none."""
+    lines = [line for call in public_calls(crate) for line in rows(call, laws.get((crate, call.title()), []))]
     head = ["| call | clauses | needs | what stands above | file |", "|---|---|---|---|---|"]
     return heading(crate) + head + lines + [""] if lines else []
 
@@ -56,7 +89,11 @@ def main(words):
     unknown = [crate for crate in crates if crate not in crate_order()]
     if unknown:
         sys.exit(f"crates.txt has no {unknown[0]}.")
-    lines = [line for crate in crates for line in table(crate)]
+    laws = read_laws()
+    missing = without_call(laws, public_clauses(crate_order()))
+    if missing:
+        sys.exit(f"{LAWS} names what no crate shows: {', '.join(missing)}")
+    lines = [line for crate in crates for line in table(crate, laws)]
     if not lines:
         sys.exit("No public call was found.")
     print("\n".join(["# Clauses", "", "What each public call promises, from the sources.", "", *lines]))

@@ -29,7 +29,7 @@ def source_files():
 
 
 def is_document(path):
-    return path.suffix == ".md"
+    return path.suffix == ".md" or path.name == "laws.txt"
 
 
 def is_placeholder(word):
