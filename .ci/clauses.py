@@ -4,33 +4,13 @@
 Below a call comes what docs/laws.txt says of it. `clauses.py` takes all crates of `crates.txt`, `clauses.py CRATE` one.
 """
 
-import re
 import sys
 from itertools import groupby
 
-from sources import CRATES, ROOT, calls_of, crate_order, exported_names, is_exported
+import laws
+from sources import CRATES, calls_of, crate_order, exported_names, is_exported
 
 UNNAMED = "(unnamed)"
-LAWS = "docs/laws.txt"
-LAW = re.compile(r"(\w+) ([\w:]+)(?: (\w+))?: (.+)")
-
-
-def read_laws():
-    """Returns what the file of laws says: each crate and call with the clauses that are meant, and the sentences."""
-    laws = {}
-    for line in (ROOT / LAWS).read_text().splitlines():
-        found = LAW.fullmatch(line)
-        if found:
-            laws.setdefault((found[1], found[2]), []).append((found[3] or "", found[4]))
-        elif line and not line.startswith("#"):
-            sys.exit(f"{LAWS} has a line of another form: {line}")
-    return laws
-
-
-def without_call(laws, shown):
-    """Returns what the file of laws names and no crate shows: a call, or a clause of one."""
-    named = [(*key, clause) for key, said in laws.items() for clause, _ in said]
-    return [" ".join(key).rstrip() for key in named if key not in shown]
 
 
 def heading(crate):
@@ -42,7 +22,7 @@ def heading(crate):
 
 
 def cell(text):
-    return text.replace("|", "\\|")
+    return text.replace("|", "\\|").replace("# Errors ", "Errors: ")
 
 
 def names(clauses):
@@ -61,7 +41,7 @@ def rows(call, said):
     path = call.path.relative_to(CRATES / call.crate)
     commented = [group for group in groups(promises) if group[0].comment]
     own = f"| `{call.title()}` | {names(promises)} | {needs} | {cell(call.comment)} | `{path}` |"
-    further = [f"| | {f'`{clause}`' if clause else ''} | | {cell(text)} | `{LAWS}` |" for clause, text in said]
+    further = [f"| | {f'`{clause}`' if clause else ''} | | {cell(text)} | `{laws.PATH}` |" for clause, text in said]
     return [own] + [f"| | {names(group)} | | {cell(group[0].comment)} | |" for group in commented] + further
 
 
@@ -77,9 +57,9 @@ def public_clauses(crates):
     return clauses | {(crate, call.title(), "") for crate, call in calls}
 
 
-def table(crate, laws):
+def table(crate, said):
     """Returns a crate's part: its heading, and the lines of its public calls, or nothing if it has none."""
-    lines = [line for call in public_calls(crate) for line in rows(call, laws.get((crate, call.title()), []))]
+    lines = [line for call in public_calls(crate) for line in rows(call, said.get((crate, call.title()), []))]
     head = ["| call | clauses | needs | what stands above | file |", "|---|---|---|---|---|"]
     return heading(crate) + head + lines + [""] if lines else []
 
@@ -89,11 +69,11 @@ def main(words):
     unknown = [crate for crate in crates if crate not in crate_order()]
     if unknown:
         sys.exit(f"crates.txt has no {unknown[0]}.")
-    laws = read_laws()
-    missing = without_call(laws, public_clauses(crate_order()))
+    said = laws.read_laws()
+    missing = laws.strangers(said, public_clauses(crate_order()))
     if missing:
-        sys.exit(f"{LAWS} names what no crate shows: {', '.join(missing)}")
-    lines = [line for crate in crates for line in table(crate, laws)]
+        sys.exit(f"{laws.PATH} names what no crate shows: {', '.join(missing)}")
+    lines = [line for crate in crates for line in table(crate, said)]
     if not lines:
         sys.exit("No public call was found.")
     print("\n".join(["# Clauses", "", "What each public call promises, from the sources.", "", *lines]))
