@@ -8,7 +8,7 @@ import sys
 from itertools import groupby
 
 import laws
-from sources import CRATES, calls_of, crate_order, exported_names, is_exported
+from sources import CRATES, crate_order
 
 UNNAMED = "(unnamed)"
 
@@ -45,21 +45,9 @@ def rows(call, said):
     return [own] + [f"| | {names(group)} | | {cell(group[0].comment)} | |" for group in commented] + further
 
 
-def public_calls(crate):
-    shown = exported_names(crate)
-    return [call for call in calls_of(crate) if is_exported(call, shown)]
-
-
-def public_clauses(crates):
-    """Returns each public call with no clause and with each of its clauses, as laws name them."""
-    calls = [(crate, call) for crate in crates for call in public_calls(crate)]
-    clauses = {(crate, call.title(), clause.name) for crate, call in calls for clause in call.clauses}
-    return clauses | {(crate, call.title(), "") for crate, call in calls}
-
-
 def table(crate, said):
     """Returns a crate's part: its heading, and the lines of its public calls, or nothing if it has none."""
-    lines = [line for call in public_calls(crate) for line in rows(call, said.get((crate, call.title()), []))]
+    lines = [line for call in laws.public_calls(crate) for line in rows(call, said.get((crate, call.title()), []))]
     head = ["| call | clauses | needs | what stands above | file |", "|---|---|---|---|---|"]
     return heading(crate) + head + lines + [""] if lines else []
 
@@ -70,9 +58,6 @@ def main(words):
     if unknown:
         sys.exit(f"crates.txt has no {unknown[0]}.")
     said = laws.read_laws()
-    missing = laws.strangers(said, public_clauses(crate_order()))
-    if missing:
-        sys.exit(f"{laws.PATH} names what no crate shows: {', '.join(missing)}")
     lines = [line for crate in crates for line in table(crate, said)]
     if not lines:
         sys.exit("No public call was found.")

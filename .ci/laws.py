@@ -1,13 +1,16 @@
+#!/usr/bin/env python3
 """Reads docs/laws.txt: what public calls promise beyond what their comments say.
 
 A line is `CRATE CALL: SENTENCES`, or `CRATE CALL = DEFINITION, ..`, which stands for the sentences of these definitions; a clause's name
 may follow the call. A definition is one of the call's own crate, or else the one of this name that there is, or it is cited as CRATE.NAME.
+`laws.py` ends with 1 if a line names a call, a clause or a definition that isn't there; `laws.py FILE` reads another file.
 """
 
 import re
 import sys
+from pathlib import Path
 
-from sources import ROOT, read_modules
+from sources import ROOT, calls_of, crate_order, exported_names, is_exported, read_modules
 
 PATH = "docs/laws.txt"
 LAW = re.compile(r"(\w+) ([\w:]+)(?: (\w+))?(:| =) (.+)")
@@ -60,10 +63,10 @@ def cited(crate, texts, named):
     return [f"`{definition.name}`: {sentences_of(definition)}" for definition in which]
 
 
-def read_laws():
+def read_laws(path=ROOT / PATH):
     """Returns what is said of each crate's call, with the clause that is meant, if one is."""
     laws, named = {}, definitions()
-    for line in (ROOT / PATH).read_text().splitlines():
+    for line in path.read_text().splitlines():
         found = LAW.fullmatch(line)
         if found:
             crate, call, clause, sign, text = found.groups()
@@ -74,7 +77,31 @@ def read_laws():
     return laws
 
 
-def strangers(laws, shown):
-    """Returns what the file names and no crate shows: a call, or a clause of one."""
+def public_calls(crate):
+    shown = exported_names(crate)
+    return [call for call in calls_of(crate) if is_exported(call, shown)]
+
+
+def names_of(crate):
+    """Returns each public call of a crate, as a line names it: alone, and with each of its clauses."""
+    calls = public_calls(crate)
+    clauses = {(crate, call.title(), clause.name) for call in calls for clause in call.clauses}
+    return clauses | {(crate, call.title(), "") for call in calls}
+
+
+def strangers(laws):
+    """Returns what the lines name and no crate shows: a call, or a clause of one."""
+    shown = set().union(*(names_of(crate) for crate in crate_order()))
     named = [(*key, clause) for key, said in laws.items() for clause, _ in said]
-    return [" ".join(key).rstrip() for key in named if key not in shown]
+    return [" ".join(key).rstrip() for key in dict.fromkeys(named) if key not in shown]
+
+
+def main(words):
+    missing = strangers(read_laws(Path(words[0])) if words else read_laws())
+    for name in missing:
+        print(f"{PATH}: no crate shows {name}")
+    sys.exit(bool(missing))
+
+
+if __name__ == "__main__":
+    main(sys.argv[1:])
