@@ -2,7 +2,7 @@
 
 A name is what stands in backticks and looks like a crate, a file, a function, a clause, a definition, a `make` target or a
 script; of code blocks, the scripts and targets that they run. Words of other programs that documents may cite stand in
-`.ci/foreign_words`. CHANGELOG.md and the first column of docs/TESTS.md keep names that went, and aren't read.
+`.ci/foreign_words`. CHANGELOG.md isn't read.
 """
 import os
 import re
@@ -29,7 +29,7 @@ def source_files():
 
 
 def is_document(path):
-    return path.suffix == ".md"
+    return path.suffix == ".md" or path.name == "laws.txt"
 
 
 def is_placeholder(word):
@@ -50,8 +50,6 @@ def citations(path):
         if line.startswith("```"):
             is_code = not is_code
             continue
-        if path.name == "TESTS.md":
-            line = re.sub(r"^\|[^|]*", "", line)
         found = [match.group(1) for match in [RUN.match(line)] if match] if is_code else re.findall(r"`([^`]+)`", line)
         yield from ((path, number, text) for text in found)
 

@@ -69,7 +69,7 @@ def comment_of(lines, marker):
 def lines_above(lines, at, marker):
     """Returns the comment that stands directly above a line, past attributes."""
     start = at
-    while start and (lines[start - 1].strip().startswith((marker + " ", "#["))):
+    while start and (lines[start - 1].strip() == marker or lines[start - 1].strip().startswith((marker + " ", "#["))):
         start -= 1
     return [line for line in lines[start:at] if line.strip().startswith(marker + " ")]
 
