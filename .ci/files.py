@@ -5,6 +5,7 @@ It reads sources, proofs, programs, scripts and documents. `files.py FOLDER LIST
 """
 
 import os
+import re
 import sys
 from pathlib import Path
 
@@ -12,6 +13,7 @@ from exceptions import listed, tell
 from sources import ROOT
 
 MOST = 400
+WRITTEN = re.compile(r"^<!-- (\w+): .*?^<!-- end of \1 -->\n", re.M | re.S)
 LEFT_BY_BUILDS = {"out", "build", ".git"}
 KINDS = (".rt", ".antt", ".py", ".sh", ".awk", ".md", ".c", ".js", ".html")
 
@@ -24,8 +26,9 @@ def files(top):
 
 
 def lines_of(path):
-    with path.open("rb") as source:
-        return sum(1 for _ in source)
+    """Returns how many lines a file has. Of a document, what a target writes between two comments doesn't count."""
+    text = path.read_text(errors="replace")
+    return len((WRITTEN.sub("", text) if path.suffix == ".md" else text).splitlines())
 
 
 def fault_of(name, size, bound):
