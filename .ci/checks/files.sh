@@ -1,5 +1,6 @@
 #!/usr/bin/env bash
-# No source, proof, script or document has more than 400 lines, but for those that .ci/exceptions names with the most that each may have. What a target writes into a document doesn't count.
+# No source, proof, script or document has more than 400 lines, but for those that .ci/exceptions names with the most that each may have.
+# What a target writes into a document doesn't count.
 . "$(dirname "$0")/../cases.sh"
 
 # A file of 401 lines, a page of as many beside its tables, an exception that grew, and one that is none.
