@@ -108,9 +108,9 @@ api: ## writes the contracts for machines, api/openapi.json and api/line.schema.
 twins: ## lists what stands twice in code, definitions and proofs
 	@bash .ci/twins.sh
 
-map: ## writes the tables of crates in docs/ARCHITECTURE.md from crates.txt and the crates' heads
+map: ## writes the picture and the tables of crates in docs/ARCHITECTURE.md from crates.txt and the crates' heads
 	@mkdir -p build
-	@bash .ci/map.sh >build/map
+	@python3 -B .ci/map.py >build/map
 	@cp build/map docs/ARCHITECTURE.md
 
 doctor: ## tells whether this machine has what the other targets need

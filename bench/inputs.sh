@@ -1,6 +1,6 @@
-# The inputs of the benchmark, and of the checks of long inputs: each function writes so many lines.
+# The inputs of the benchmark, and of the checks of long inputs: each function writes COUNT lines.
 
-# purchases COUNT: an input of so many lines.
+# purchases COUNT: an input of COUNT lines.
 purchases() {
     awk -v count="$1" 'BEGIN {
         print "{\"type\":\"user\",\"token\":\"u\",\"user\":\"u1\"}"
@@ -24,7 +24,7 @@ crowded() {
     purchases "$1" | awk 'NR == FNR { names[NR] = $1; next } { sub(/"token":"[^"]*"/, "\"token\":\"" names[FNR] "\""); print }' "$room/names$1" -
 }
 
-# controls NUMBER COUNT: so many lines, of which the first are a user, a card and so many controls, and the rest purchases that each of
+# controls NUMBER COUNT: COUNT lines, of which the first are a user, a card and NUMBER controls, and the rest purchases that each of
 # seven in ten controls counts: over a day, a week, a month or for good in turn, three in ten for one category alone. None declines.
 controls() {
     awk -v number="$1" 'BEGIN {
@@ -55,7 +55,7 @@ again() {
     purchases $(($1 / 2))
 }
 
-# repeats COUNT: one line, so many times.
+# repeats COUNT: one line, COUNT times.
 repeats() {
     yes '{"type":"user","token":"u","user":"u1"}' | head -n "$1" || true
 }
@@ -84,59 +84,7 @@ gateway() {
 # mixed COUNT: lines of all kinds, with repeats, conflicts and faults, a minute apart; at the end a time by which all is due, and each
 # acknowledgement once more.
 mixed() {
-    awk -v count="$1" '
-    function event(type, token, rest) { printf "{\"type\":\"%s\",\"token\":\"%s\",%s}\n", type, token, rest }
-    function purchase(token, card, amount, at) {
-        event("authorization", token, sprintf("\"card\":\"%s\",\"currency\":\"USD\",\"amount\":\"%s\",\"mcc\":\"5411\",\"mid\":\"m1\",\"at\":%d", card, amount, at))
-    }
-    function asked(token, amount, at) { calls++; purchase(token, "c2", amount, at) }
-    function outcome(what, at) { printf "{\"type\":\"answer\",\"call\":%d,\"outcome\":\"%s\",\"at\":%d}\n", calls, what, at }
-    function later(type, token, txn, amount, at) {
-        event(type, token, sprintf("\"txn\":\"%s\",\"currency\":\"USD\",\"amount\":\"%s\",\"at\":%d", txn, amount, at))
-    }
-    function ack(i) { printf "{\"type\":\"ack\",\"notice\":%d}\n", i % 40 < 20 ? i / 10 + 1 : i / 3 + 1 }
-    BEGIN {
-        event("product", "p1", "\"product\":\"g\",\"currency\":\"USD\",\"funding\":\"GATEWAY\"")
-        event("product", "p2", "\"product\":\"h\",\"currency\":\"USD\",\"funding\":\"ACCOUNT\"")
-        event("user", "u1", "\"user\":\"u1\"")
-        event("user", "u2", "\"user\":\"u2\"")
-        event("card", "c1", "\"card\":\"c1\",\"user\":\"u1\"")
-        event("card", "c2", "\"card\":\"c2\",\"user\":\"u2\",\"product\":\"g\"")
-        event("card", "c3", "\"card\":\"c3\",\"user\":\"u1\",\"product\":\"h\"")
-        event("group", "g1", "\"group\":\"food\",\"mccs\":[\"5411\",\"5812\"]")
-        event("control", "v1", "\"control\":\"v1\",\"currency\":\"USD\",\"window\":\"DAY\",\"amount_limit\":\"1000000.00\"")
-        event("control", "v2", "\"control\":\"v2\",\"currency\":\"USD\",\"window\":\"WEEK\",\"usage_limit\":1000000,\"group\":\"food\",\"user\":\"u1\"")
-        event("set", "s1", "\"set\":\"s1\",\"product\":\"g\",\"currency\":\"USD\",\"connection\":true,\"max\":\"10.00\",\"day_limit\":\"40.00\"")
-        rounds = int((count - 12) / 21)
-        for (i = 0; i < 20 * rounds; i++) {
-            at = 60000 * i
-            kind = i % 20
-            if (kind == 0) event("load", "l" i, "\"user\":\"u1\",\"currency\":\"USD\",\"amount\":\"5.00\"")
-            if (kind == 1) purchase("a" i, "c1", "1.00", at)
-            if (kind == 2) later("increment", "i" i, "a" (i - 1), "0.50", at)
-            if (kind == 3) later("reversal", "r" i, "a" (i - 2), "0.25", at)
-            if (kind == 4) later("clearing", "k" i, "a" (i - 3), "1.00", at)
-            if (kind == 5) later("refund", "f" i, "a" (i - 4), "0.40", at)
-            if (kind == 6) asked("a" i, "2.00", at)
-            if (kind == 7) outcome("FUNDED", at - 59000)
-            if (kind == 8) later("clearing", "k" i, "a" (i - 2), "1.50", at)
-            if (kind == 9) asked("a" i, "1.00", at)
-            if (kind == 10) outcome("REFUSED", at - 59000)
-            if (kind == 11) asked("a" i, "1.00", at)
-            if (kind == 12) outcome("CONNECTION", at - 59000)
-            if (kind == 13) asked("a" i, "1.00", at)
-            if (kind == 14) purchase("a" (i - 13), "c1", "1.00", at)
-            if (kind == 15) purchase("a" (i - 14), "c1", "9.00", at)
-            if (kind == 16) event("move", "m" i, sprintf("\"card\":\"c3\",\"to\":\"%s\"", i % 40 < 20 ? "SUSPENDED" : "ACTIVE"))
-            if (kind == 17 && i % 40 < 20) later("reversal", "r" i, "a" (i - 11), "0.25", at)
-            if (kind == 17 && i % 40 >= 20) later("refund", "f" i, "a" (i - 11), "0.75", at)
-            if (kind == 18) ack(i)
-            if (kind == 19) event("switch", "w" i, "\"product\":\"h\",\"on\":" (i % 40 < 20 ? "true" : "1"))
-        }
-        printf "{\"type\":\"time\",\"at\":%d}\n", 60000 * i + 604800000
-        for (i = 18; i < 20 * rounds; i += 20) ack(i)
-        for (i = 12 + 21 * rounds; i < count; i++) event("user", "u1", "\"user\":\"u1\"")
-    }'
+    awk -v count="$1" -f bench/mixed.awk
 }
 
 # long_names COUNT: lines that repeat names of 36 letters: a product that a gateway funds, a user, and a card that is offered again and
@@ -165,7 +113,7 @@ long_names() {
     }'
 }
 
-# kept NAME COUNT: so many lines of an input of 20,000 that is kept here.
+# kept NAME COUNT: the first COUNT lines of an input of 20,000 that is kept here.
 kept() {
     gzip -dc "bench/$1.jsonl.gz" | sed -n "1,$2p"
 }

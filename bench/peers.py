@@ -1,4 +1,4 @@
-"""The program on a device of its own, clients of it, and gateways."""
+"""The program on a device of its own, clients of it, gateways, and the row of a figure."""
 import contextlib
 import json
 import os
@@ -14,10 +14,23 @@ import tempfile
 import threading
 import time
 from collections import Counter
+from dataclasses import dataclass
 from http.server import BaseHTTPRequestHandler, HTTPServer
 from pathlib import Path
 
 HOST = "127.0.0.1"
+# After how many seconds of silence a client is closed.
+CLIENT_SILENCE = 30
+
+
+@dataclass
+class Row:
+    """One figure: what it is of, what came, what is aimed at, and whether that is met."""
+
+    what: str
+    figure: str
+    aim: str = ""
+    is_met: bool = True
 
 
 def purchase(event, card="own", amount="0.01", **more):
