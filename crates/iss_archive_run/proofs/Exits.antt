@@ -24,19 +24,21 @@ use Rattle.iss_opening.specs.declared.fault.OpenFault.{OpenFault}
 use Rattle.iss_opening.specs.declared.fault.OpenFault.TheVariants as open_fault
 use Rattle.iss_opening.specs.Values.{StoreNow}
 use Rattle.iss_opening.specs.Opening.{Opens, OpensGood, OpenedAs, OnRefused, ReadsAlone, OpenCause}
-use Rattle.iss_device.specs.Refusals.{RefusesExactly, opening_status}
+use Rattle.iss_device.specs.Refusals.{RefusesExactly}
 use Rattle.iss_device.proofs.Refusals.{told_refuses, opened_refuses}
-use Rattle.iss_follow_runs.specs.Moments.{KeepsMoments, KeepsRecords}
-use Rattle.iss_follow_runs.proofs.Emits.{emitted_moments, emitted_records, torn_moments}
+use Rattle.iss_follow_runs.specs.Moments.{TellsMoments, KeepsRecords, EndsKept}
+use Rattle.iss_follow_runs.proofs.Emits.{emitted_moments, emitted_records, sends_part, torn_moments, torn_records}
 use Rattle.iss_follow_runs.proofs.Images.{instance_opened, count_opened}
-use Rattle.iss_follow_runs.proofs.Tellings.{told_unopened_moments, told_opened_moments, told_opened_refuses}
+use Rattle.iss_follow_runs.proofs.Openings.{ends_kept}
+use Rattle.iss_follow_runs.proofs.Tellings.{told_unopened_moments, told_unopened_alone, told_opened_moments, told_opened_alone, told_opened_ends, told_opened_refuses}
 use Rattle.iss_archive_run.specs.declared.stop.Stop.{Stop}
 use Rattle.iss_archive_run.specs.declared.stop.Stop.TheVariants as stop
-use Rattle.iss_archive_run.specs.Statuses.{exit_status, stop_of_opening, stop_of_keeping}
+use Rattle.iss_archive_run.specs.Statuses.{stop_of_opening, stop_of_keeping}
 use Rattle.iss_archive_run.specs.Lines.{archived_line}
 use Rattle.iss_archive_run.specs.Made.{fits, StepsOn, OpensSteps}
-use Rattle.iss_archive_run.specs.Keeping.{CameToLine, IsCaused, IsCalledForOn, IsDue, DueOn, IsUntouched, SendsLine, TellsArchived, ArchiveOn, KeepsArchive, KeepDone}
+use Rattle.iss_archive_run.specs.Keeping.{CameToLine, IsCaused, IsCalledForOn, IsDue, DueOn, IsUntouched, SendsLine, TellsArchived, TellsPart, ArchiveOn, KeepsArchive, KeepDone}
 use Rattle.iss_archive_run.proofs.Mades.{steps_fit, steps_of}
+use Rattle.iss_archive_run.proofs.Unopened.{status_of, opening_of, status_is, no_line, unopened_no_line, unopened_not_five, unopened_ends, tells_still, refused_so, due_unopened, caused_unopened}
 
 -- ---- what a keeper tells
 
@@ -56,68 +58,6 @@ same_up instance rs (Some a) k le held = record { count = k; least = omega arith
 
 -- ---- the device didn't open
 
-abbrev status_of : Stop → ℕ
-status_of ended = exit_status {A = Unit {0}} (Err ended)
-
-abbrev opening_of : OpenFault → ℕ
-opening_of fault = status_of (stop_of_opening fault)
-
-status_is : (fault : OpenFault) → opening_status fault ≡ opening_of fault
-status_is open_fault.Disk = refl
-status_is open_fault.OutOfMemory = refl
-status_is open_fault.NotFormatted = refl
-status_is (open_fault.BadImage place) = refl
-status_is (open_fault.BadRecord gate) = refl
-status_is (open_fault.BadSpelling gate) = refl
-status_is (open_fault.BadHistory gate) = refl
-
--- it didn't come to its line
-no_line : (n : ℕ) → (n ≡ 0 → ⊥) → (n ≡ 5 → ⊥) → CameToLine n → ⊥
-no_line n zero five e = elim e [ inl x ↦ zero x | inr x ↦ five x ]
-
-unopened_no_line : (fault : OpenFault) → CameToLine (opening_of fault) → ⊥
-unopened_no_line open_fault.Disk = no_line 6 (λ e. absurd cc) (λ e. absurd cc)
-unopened_no_line open_fault.OutOfMemory = no_line 7 (λ e. absurd cc) (λ e. absurd cc)
-unopened_no_line open_fault.NotFormatted = no_line 4 (λ e. absurd cc) (λ e. absurd cc)
-unopened_no_line (open_fault.BadImage place) = no_line 4 (λ e. absurd cc) (λ e. absurd cc)
-unopened_no_line (open_fault.BadRecord gate) = no_line 4 (λ e. absurd cc) (λ e. absurd cc)
-unopened_no_line (open_fault.BadSpelling gate) = no_line 4 (λ e. absurd cc) (λ e. absurd cc)
-unopened_no_line (open_fault.BadHistory gate) = no_line 4 (λ e. absurd cc) (λ e. absurd cc)
-
-refused_so : (T U : Type 0) (fault : OpenFault) (P : Type 0) → OnRefused {T = T} (Err fault) P → OnRefused {T = U} (Err fault) P
-refused_so T U open_fault.Disk P p = tt
-refused_so T U open_fault.OutOfMemory P p = p
-refused_so T U open_fault.NotFormatted P p = p
-refused_so T U (open_fault.BadImage place) P p = p
-refused_so T U (open_fault.BadRecord gate) P p = p
-refused_so T U (open_fault.BadSpelling gate) P p = p
-refused_so T U (open_fault.BadHistory gate) P p = p
-
-due_unopened : (fault : OpenFault) (device : List ℕ) (a b : Archived) → IsDue {A = Unit {0}} (Err (stop_of_opening fault)) device a b
-due_unopened open_fault.Disk device a b = tt
-due_unopened open_fault.OutOfMemory device a b = tt
-due_unopened open_fault.NotFormatted device a b = tt
-due_unopened (open_fault.BadImage place) device a b = tt
-due_unopened (open_fault.BadRecord gate) device a b = tt
-due_unopened (open_fault.BadSpelling gate) device a b = tt
-due_unopened (open_fault.BadHistory gate) device a b = tt
-
-caused_unopened : {T : Type 0} (fault : OpenFault) (before now : Faults) (g : ℕ) → OpenCause {T = T} before now (Err fault) → IsCaused {A = Unit {0}} before now g g (Err (stop_of_opening fault))
-caused_unopened open_fault.Disk before now g cause =
-    record { later = cause.later; kept_later = omega arith; disk = λ e. cause.disk refl; output = λ e. absurd cc; keeper = λ e. absurd cc }
-caused_unopened open_fault.OutOfMemory before now g cause =
-    record { later = cause.later; kept_later = omega arith; disk = λ e. absurd cc; output = λ e. absurd cc; keeper = λ e. absurd cc }
-caused_unopened open_fault.NotFormatted before now g cause =
-    record { later = cause.later; kept_later = omega arith; disk = λ e. absurd cc; output = λ e. absurd cc; keeper = λ e. absurd cc }
-caused_unopened (open_fault.BadImage place) before now g cause =
-    record { later = cause.later; kept_later = omega arith; disk = λ e. absurd cc; output = λ e. absurd cc; keeper = λ e. absurd cc }
-caused_unopened (open_fault.BadRecord gate) before now g cause =
-    record { later = cause.later; kept_later = omega arith; disk = λ e. absurd cc; output = λ e. absurd cc; keeper = λ e. absurd cc }
-caused_unopened (open_fault.BadSpelling gate) before now g cause =
-    record { later = cause.later; kept_later = omega arith; disk = λ e. absurd cc; output = λ e. absurd cc; keeper = λ e. absurd cc }
-caused_unopened (open_fault.BadHistory gate) before now g cause =
-    record { later = cause.later; kept_later = omega arith; disk = λ e. absurd cc; output = λ e. absurd cc; keeper = λ e. absurd cc }
-
 same_archive : (n instance : ℕ) (rs : List Record) (v : Option Archived) (left : Archived → Type 0) (a b : World) → (CameToLine n → ⊥) → ArchiveOn n instance rs v v left left a b
 same_archive n instance rs v left a b other =
     record {
@@ -136,8 +76,11 @@ unopened {T = T} fault before now x y g v left opens good reads cause =
       due = told_map OpensGood (DueOn {A = Unit {0}} (Err (stop_of_opening fault)) v v) x y (λ a b g. kept_self (IsDue {A = Unit {0}} (Err (stop_of_opening fault)) a.device) v (λ h. due_unopened fault a.device h h)) good;
       archive = told_map OpensGood (KeepsArchive (opening_of fault) v v left left) x y (λ a b g form seat rs stands. same_archive (opening_of fault) form.instance rs v left a b (unopened_no_line fault)) good;
       out = λ e. absurd (unopened_no_line fault (inl e));
-      moments = told_unopened_moments x y good;
+      part = λ e. absurd (unopened_not_five fault e);
+      quiet = λ none. told_unopened_alone x y good;
+      moments = tells_still x y (told_unopened_moments x y good);
       records = λ e. absurd (unopened_no_line fault (inl e));
+      ended = λ six. unopened_ends T fault x y six reads;
     }
 
 -- ---- nothing was done on the keeper
@@ -229,8 +172,11 @@ module _ (s : StoreNow) (steps : List Stepped) (before now : Faults) (x y : Opti
         due = told_map (λ a b. ⊥) (DueOn {A = Unit {0}} (Err stop.Device) v v) x y (λ a b e. absurd e) never;
         archive = told_map (λ a b. ⊥) (KeepsArchive 4 v v left left) x y (λ a b e. absurd e) never;
         out = λ e. absurd cc;
-        moments = told_opened_moments x y s opening;
+        part = λ e. absurd cc;
+        quiet = λ none. told_opened_alone x y s opening;
+        moments = tells_still x y (told_opened_moments x y s opening);
         records = λ e. absurd cc;
+        ended = λ six. told_opened_ends x y s opening;
       }
 
   module _ (g h : ℕ) (v w : Option Archived) (left_was left_now : Archived → Type 0) (kept : Result (Option Head) ArchiveFault) (k : Kept s.core.instance s.point steps g h v w left_was left_now kept) where
@@ -270,8 +216,11 @@ module _ (s : StoreNow) (steps : List Stepped) (before now : Faults) (x y : Opti
           due = due;
           archive = told_map (OpensSteps s steps) (KeepsArchive (status_of ended) v w left_was left_now) x y (λ a b o. part_archive (status_of ended) a b none o.there) opened;
           out = λ e. absurd (none (inl e));
-          moments = told_opened_moments x y s opening;
+          part = λ e. absurd (none (inr e));
+          quiet = λ other. told_opened_alone x y s opening;
+          moments = tells_still x y (told_opened_moments x y s opening);
           records = λ e. absurd (none (inl e));
+          ended = λ six. told_opened_ends x y s opening;
         }
 
     due_of : (fault : ArchiveFault) (device : List ℕ) (a b : Archived) → StepsOn s steps device → Why (Err fault) a b → IsDue {A = Unit {0}} (Err (stop_of_keeping fault)) device a b
@@ -325,7 +274,10 @@ module _ (s : StoreNow) (steps : List Stepped) (before now : Faults) (x y : Opti
           (told_map (OpensSteps s steps) (DueOn {A = Unit {0}} (Err stop.Memory) v w) x y
           (λ a b o. kept_map (Why (Ok head)) (IsDue {A = Unit {0}} (Err stop.Memory) a.device) v w (λ p q y. tt) why) opened)
 
-      module _ (ch : Channel) (line : List ℕ) (last : Faults) (z : Option World) (after : Later now last) where
+      module _ (ch : Channel) (line : List ℕ) (last : Faults) (z : Option World) (after : Later now last) (posts : ℕ) (counted : posts ≡ posts_in head) (standard : ch ≡ record { 0 = 0 }) (is : line ≡ archived_line posts s.core.state.count) where
+        held : IfSome w (λ b. posts_in b.head ≡ posts)
+        held = held_posts s.core.instance s.point (s.point + length steps) steps head posts v w counted why
+
         unsent_archive : (a d : World) → After s steps (EmitsPart ch line) a d → KeepsArchive 5 v w left_was left_now a d
         unsent_archive a d o form seat rs stands =
             let both = kept_up form seat rs a.device o.opens.there stands in
@@ -349,63 +301,73 @@ module _ (s : StoreNow) (steps : List Stepped) (before now : Faults) (x y : Opti
                   (λ a d o. kept_map (Why (Ok head)) (IsDue {A = Unit {0}} (Err stop.Output) a.device) v w (λ p q y. (head, called (Ok head) a.device p q o.opens.there y)) why) behind;
               archive = told_map (After s steps (EmitsPart ch line)) (KeepsArchive 5 v w left_was left_now) x z unsent_archive behind;
               out = λ e. absurd cc;
-              moments = told_map (After s steps (EmitsPart ch line)) KeepsMoments x z (λ a d o. torn_moments s a o.between d o.opens.opening ch line o.later) behind;
+              part = λ e.
+                  told_map (After s steps (EmitsPart ch line)) (TellsPart w) x z
+                  (λ a d o. record {
+                    store = s;
+                    opens = o.opens.opening.opens;
+                    posts = posts;
+                    held = held;
+                    out = sends_part s a o.between d o.opens.opening ch line (archived_line posts s.core.state.count) standard is o.later;
+                  }) behind;
+              quiet = λ none. absurd (none (inr refl));
+              moments = told_map (After s steps (EmitsPart ch line)) TellsMoments x z (λ a d o. torn_moments s a o.between d o.opens.opening ch line o.later) behind;
               records = λ e. absurd cc;
+              ended = λ six. told_map (After s steps (EmitsPart ch line)) EndsKept x z (λ a d o. ends_kept a d (torn_records s a o.between d o.opens.opening ch line o.later)) behind;
             }
 
         -- it did
-        module _ (posts : ℕ) (counted : posts ≡ posts_in head) (standard : ch ≡ record { 0 = 0 }) (is : line ≡ archived_line posts s.core.state.count) where
-          sends : (a d : World) → After s steps (Emits ch line) a d → SendsLine posts s.core.state.count a d
-          sends a d o =
-              let action : Emit ch line true ≡ Emit (record { 0 = 0 }) (archived_line posts s.core.state.count) true = λ i. Emit (standard i) (is i) true in
-              let good = o.opens.opening.good in
-              record {
-                opening = good.added;
-                on_device = good.on_device;
-                grew =
-                    o.later.trace
-                    ∙ ap (λ (l : List Action). l ++ Emit ch line true ∷ []) good.grew
-                    ∙ append_assoc a.trace good.added (Emit ch line true ∷ [])
-                    ∙ ap (λ (one : Action). a.trace ++ (good.added ++ one ∷ [])) action;
-              }
+        sends : (a d : World) → After s steps (Emits ch line) a d → SendsLine posts s.core.state.count a d
+        sends a d o =
+            let action : Emit ch line true ≡ Emit (record { 0 = 0 }) (archived_line posts s.core.state.count) true = λ i. Emit (standard i) (is i) true in
+            let good = o.opens.opening.good in
+            record {
+              opening = good.added;
+              on_device = good.on_device;
+              grew =
+                  o.later.trace
+                  ∙ ap (λ (l : List Action). l ++ Emit ch line true ∷ []) good.grew
+                  ∙ append_assoc a.trace good.added (Emit ch line true ∷ [])
+                  ∙ ap (λ (one : Action). a.trace ++ (good.added ++ one ∷ [])) action;
+            }
 
-          held : IfSome w (λ b. posts_in b.head ≡ posts)
-          held = held_posts s.core.instance s.point (s.point + length steps) steps head posts v w counted why
+        whole_archive : (a d : World) → After s steps (Emits ch line) a d → KeepsArchive 0 v w left_was left_now a d
+        whole_archive a d o form seat rs stands =
+            let there = o.opens.there in
+            let count = count_opened s a.device form seat rs there.opens stands in
+            let both = kept_up form seat rs a.device there stands in
+            let all = all_kept form seat rs a.device there stands in
+            record {
+              kept = both.0;
+              stop = both.1;
+              whole = λ e. all;
+              line = λ e k le first told.
+                  subst (λ (n : ℕ). SendsLine n (length rs) a d) (posts_all form.instance rs w posts told held (all k le first))
+                  (subst (λ (n : ℕ). SendsLine posts n a d) count (sends a d o));
+            }
 
-          whole_archive : (a d : World) → After s steps (Emits ch line) a d → KeepsArchive 0 v w left_was left_now a d
-          whole_archive a d o form seat rs stands =
-              let there = o.opens.there in
-              let count = count_opened s a.device form seat rs there.opens stands in
-              let both = kept_up form seat rs a.device there stands in
-              let all = all_kept form seat rs a.device there stands in
-              record {
-                kept = both.0;
-                stop = both.1;
-                whole = λ e. all;
-                line = λ e k le first told.
-                    subst (λ (n : ℕ). SendsLine n (length rs) a d) (posts_all form.instance rs w posts told held (all k le first))
-                    (subst (λ (n : ℕ). SendsLine posts n a d) count (sends a d o));
-              }
-
-          pub sent : Told (Emits ch line) y z → KeepDone {A = Unit {0}} before last x z g h v w left_was left_now (Ok tt)
-          sent emitted =
-              let behind = told_after (Emits ch line) z emitted in
-              record {
-                caused = record {
-                  later = later_then before now last later after;
-                  kept_later = k.later;
-                  disk = λ e. absurd cc;
-                  output = λ e. absurd cc;
-                  keeper = λ e. absurd cc;
-                };
-                refused = told_map (After s steps (Emits ch line)) (RefusesExactly 0) x z (λ a d o. opened_refuses 0 s a d (λ e. absurd cc) o.opens.opening.opens) behind;
-                due =
-                    told_map (After s steps (Emits ch line)) (DueOn {A = Unit {0}} (Ok tt) v w) x z
-                    (λ a d o. kept_map (Why (Ok head)) (IsDue {A = Unit {0}} (Ok tt) a.device) v w (λ p q y. (head, called (Ok head) a.device p q o.opens.there y)) why) behind;
-                archive = told_map (After s steps (Emits ch line)) (KeepsArchive 0 v w left_was left_now) x z whole_archive behind;
-                out = λ e.
-                    told_map (After s steps (Emits ch line)) (TellsArchived w) x z
-                    (λ a d o. record { store = s; opens = o.opens.opening.opens; posts = posts; held = held; out = sends a d o }) behind;
-                moments = told_map (After s steps (Emits ch line)) KeepsMoments x z (λ a d o. emitted_moments s a o.between d o.opens.opening ch line o.later) behind;
-                records = λ e. told_map (After s steps (Emits ch line)) KeepsRecords x z (λ a d o. emitted_records s a o.between d o.opens.opening ch line o.later) behind;
-              }
+        pub sent : Told (Emits ch line) y z → KeepDone {A = Unit {0}} before last x z g h v w left_was left_now (Ok tt)
+        sent emitted =
+            let behind = told_after (Emits ch line) z emitted in
+            record {
+              caused = record {
+                later = later_then before now last later after;
+                kept_later = k.later;
+                disk = λ e. absurd cc;
+                output = λ e. absurd cc;
+                keeper = λ e. absurd cc;
+              };
+              refused = told_map (After s steps (Emits ch line)) (RefusesExactly 0) x z (λ a d o. opened_refuses 0 s a d (λ e. absurd cc) o.opens.opening.opens) behind;
+              due =
+                  told_map (After s steps (Emits ch line)) (DueOn {A = Unit {0}} (Ok tt) v w) x z
+                  (λ a d o. kept_map (Why (Ok head)) (IsDue {A = Unit {0}} (Ok tt) a.device) v w (λ p q y. (head, called (Ok head) a.device p q o.opens.there y)) why) behind;
+              archive = told_map (After s steps (Emits ch line)) (KeepsArchive 0 v w left_was left_now) x z whole_archive behind;
+              out = λ e.
+                  told_map (After s steps (Emits ch line)) (TellsArchived w) x z
+                  (λ a d o. record { store = s; opens = o.opens.opening.opens; posts = posts; held = held; out = sends a d o }) behind;
+              part = λ e. absurd cc;
+              quiet = λ none. absurd (none (inl refl));
+              moments = told_map (After s steps (Emits ch line)) TellsMoments x z (λ a d o. emitted_moments s a o.between d o.opens.opening ch line o.later) behind;
+              records = λ e. told_map (After s steps (Emits ch line)) KeepsRecords x z (λ a d o. emitted_records s a o.between d o.opens.opening ch line o.later) behind;
+              ended = λ six. told_map (After s steps (Emits ch line)) EndsKept x z (λ a d o. ends_kept a d (emitted_records s a o.between d o.opens.opening ch line o.later)) behind;
+            }

@@ -3,7 +3,7 @@
 use Rattle.std.specs.Prelude.{◌≡◌, ◌⊎◌, ℕ, ◌≤◌, true, List, [], ◌∷◌, ◌++◌, take, length, Option, Result, Ok, Err, IsErrOf, IfSome, IsSome}
 use Rattle.iss_edge.specs.declared.outside.Action.{Action}
 use Rattle.iss_edge.specs.declared.outside.Action.TheVariants.{Emit}
-use Rattle.iss_edge.specs.declared.status.TheConstants.{DONE, OUTPUT_FAULT}
+use Rattle.iss_edge.specs.declared.status.TheConstants.{DONE, OUTPUT_FAULT, DISK_FAULT}
 use Rattle.iss_edge.specs.World.{World, Told, Faults, Later, Rose}
 use Rattle.iss_halves.specs.Forms.{Form, Seat}
 use Rattle.iss_model.specs.declared.input.Record.{Record}
@@ -19,8 +19,9 @@ use Rattle.iss_archive.specs.Steps.{IsCalledFor}
 use Rattle.iss_standing.specs.Standing.{DeviceStandsFor}
 use Rattle.iss_opening.specs.Values.{StoreNow}
 use Rattle.iss_opening.specs.Opening.{AreOnDevice, OpensStore}
-use Rattle.iss_device.specs.Refusals.{RefusesExactly}
-use Rattle.iss_follow_runs.specs.Moments.{KeepsMoments, KeepsRecords}
+use Rattle.iss_device.specs.Refusals.{OnDeviceAlone, RefusesExactly}
+use Rattle.iss_follow_runs.specs.Moments.{TellsMoments, KeepsRecords, EndsKept}
+use Rattle.iss_follow_runs.specs.Sendings.{SendsPart}
 use Rattle.iss_archive_run.specs.declared.stop.Stop.{Stop}
 use Rattle.iss_archive_run.specs.declared.stop.Stop.TheVariants.{Device, Output, Disk, Memory, Gap, Strange, Keeper}
 use Rattle.iss_archive_run.specs.Statuses.{exit_status}
@@ -72,6 +73,14 @@ pub record TellsArchived (w : Option Archived) (a b : World) : Type 0 where
   pub held : IfSome w (λ held. posts_in held.head ≡ posts)
   pub out : SendsLine posts store.core.state.count a b
 
+-- the same line, of which a first part went out, or nothing
+pub record TellsPart (w : Option Archived) (a b : World) : Type 0 where
+  pub store : StoreNow
+  pub opens : OpensStore store a.device
+  pub posts : ℕ
+  pub held : IfSome w (λ held. posts_in held.head ≡ posts)
+  pub out : SendsPart (archived_line posts store.core.state.count) a b
+
 -- the run came to its line
 abbrev pub CameToLine : ℕ → Type 0
 CameToLine status = (status ≡ DONE) ⊎ (status ≡ OUTPUT_FAULT)
@@ -102,9 +111,14 @@ pub record KeepDone {A : Type 0} (before now : Faults) (x y : Option World) (kep
   pub archive : Told (KeepsArchive (exit_status result) v w left_was left_now) x y
   -- at 0 the line went out
   pub out : exit_status result ≡ DONE → Told (TellsArchived w) x y
+  -- at 5 a first part of it did, or nothing, and at another status nothing
+  pub part : exit_status result ≡ OUTPUT_FAULT → Told (TellsPart w) x y
+  pub quiet : (CameToLine (exit_status result) → ⊥) → Told OnDeviceAlone x y
   -- at each moment a stop leaves what stood on the device, and at 0 it stands there
-  pub moments : Told KeepsMoments x y
+  pub moments : Told TellsMoments x y
   pub records : exit_status result ≡ DONE → Told KeepsRecords x y
+  -- unless a call on the device failed, the run ended where the next one begins, or did nothing but maybe a sync
+  pub ended : (exit_status result ≡ DISK_FAULT → ⊥) → Told EndsKept x y
 
 -- if it ended so that nothing was done on the keeper
 abbrev pub IsUntouched : {A : Type 0} → Result A Stop → Type 0 → Type 0

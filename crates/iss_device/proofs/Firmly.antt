@@ -1,8 +1,8 @@
 -- What a stop leaves stands firmly: the next run may begin with it.
-use Rattle.std.proofs.Common.{◌≡◌, ◌≤◌, ℕ, ◌+◌, ◌-◌, inl, inr, true, List, [], ◌∷◌, ◌++◌, length, take, drop, set, refl, sym, ap, subst, ◌∙◌, arith, length-append, append_assoc}
+use Rattle.std.proofs.Common.{◌≡◌, ◌≤◌, ℕ, ◌+◌, ◌-◌, inl, inr, true, false, List, [], ◌∷◌, ◌++◌, length, take, drop, set, refl, sym, ap, subst, ◌∙◌, arith, length-append, append_assoc}
 use Rattle.std.proofs.lemmas.List.{append_cancel_left, take-append-drop, length-take, length-take-le, drop-append-le, length-map}
 use Rattle.std.proofs.Math.Seq.{take-add}
-use Rattle.iss_edge.specs.Disk.{Disk, IsAtRest}
+use Rattle.iss_edge.specs.Disk.{Disk}
 use Rattle.iss_edge.specs.Stretches.{Step, SentUpTo, ShowsUpTo}
 use Rattle.iss_edge.proofs.StretchLemmas.{sent_weaker}
 use Rattle.iss_journal.specs.Region.{Region, bytes_before_gate, Shows, ShowsClosed, LeavesBehind, ShowsFirmly, StandsFirst}
@@ -20,7 +20,7 @@ use Rattle.iss_standing.specs.Goings.{AreFirstOf}
 use Rattle.iss_standing.proofs.Bodies.{take_bodies, drop_bodies, bodies_more, first_image, first_between, first_length, between, between_all}
 use Rattle.iss_standing.proofs.NextRecords.{history_first, history_taken}
 use Rattle.iss_standing.proofs.Holds.{holds_map}
-use Rattle.iss_device.specs.Moments.{BeginsAtRest, EachMoment, MayFollow, StandsFirmlyAt, StandsFirmly, StopStands, EachStopStands}
+use Rattle.iss_device.specs.Moments.{BeginsUnsynced, EachMomentUnsynced, MayFollow, StandsFirmlyAt, StandsFirmly, StopStands, EachStopStands}
 use Rattle.iss_device.proofs.Devices.{shows_stands}
 use Rattle.iss_device.proofs.Seats.{both_held}
 
@@ -145,6 +145,33 @@ module _ (form : Form) (rs : List Record) (device : List ℕ) (seat : Seat) (bod
             }
       ]
 
+-- ---- a run may begin on a device that stands firmly, if no write is left failed
+
+pub begins_firmly : (form : Form) (rs : List Record) (device : List ℕ) (d : Disk) → ((place : ℕ) → d.failed place ≡ false) → d.bytes ≡ device → StandsFirmly form rs device → BeginsUnsynced form rs device d
+begins_firmly form rs device d none same firmly =
+    let seat : Seat = firmly.0 in
+    let there : StandsFirmlyAt form seat rs device = firmly.1 in
+    let bodies = bodies_of (drop seat.point rs) in
+    let own = image_after (take seat.point rs) in
+    let firm : JournalHolds form seat own (λ region. ShowsFirmly region bodies device) =
+    elim there.firm [
+      | inl closed ↦ holds_map form seat own (λ region. ShowsClosed region bodies device) (λ region. ShowsFirmly region bodies device) (λ region c. inl c) closed
+      | inr left ↦
+          holds_map form seat own (λ region. LeavesBehind region bodies (spelling left.0) device) (λ region. ShowsFirmly region bodies device) (λ region l. inr (spelling left.0, l)) left.1.1
+    ] in
+    record {
+      none_failed = none;
+      starts =
+          record {
+            same = same;
+            seat = seat;
+            low = there.stands.low;
+            holds =
+                subst (λ (l : List (List ℕ)). JournalHolds form seat own (λ region. ShowsFirmly region l d.bytes)) (sym (between_all seat.point rs there.stands.low))
+                (subst (λ (bytes : List ℕ). JournalHolds form seat own (λ region. ShowsFirmly region bodies bytes)) (sym same) firm);
+          };
+    }
+
 module _ (form : Form) (rs made : List Record) (device : List ℕ) (first : AreFirstOf rs made) (history : AreHistory made) (few : form.halved ≡ true → length made ≤ MOST_RECORDS) where
   -- ---- after the opening
 
@@ -246,7 +273,7 @@ module _ (form : Form) (rs made : List Record) (device : List ℕ) (first : AreF
               (again (λ region. ShowsClosed region (bodies_of (drop point now)) image) (subst (λ (l : List (List ℕ)). ShowsClosed region l image) bodies closed))));
           least = omega (arith, long);
           told = sent_weaker (length rs) (length now) before (omega (arith, long)) told;
-          which = inr (there.r, refl);
+          which = inr (record { r = there.r; more = refl; untold = told });
         }
 
     opening_stands : JournalHolds form seat (image_after (take point made)) (λ region. OpenedOrOneMore region (drop point (bodies_of made)) device image (length rs - point)) → StopStands form rs made before image
@@ -275,39 +302,18 @@ module _ (form : Form) (rs made : List Record) (device : List ℕ) (first : AreF
 
   -- ---- at each moment
 
-  begins_firmly : (d : Disk) → IsAtRest d → d.bytes ≡ device → StandsFirmly form rs device → BeginsAtRest form rs device d
-  begins_firmly d rest same firmly =
-      let seat : Seat = firmly.0 in
-      let there : StandsFirmlyAt form seat rs device = firmly.1 in
-      let bodies = bodies_of (drop seat.point rs) in
-      let own = image_after (take seat.point rs) in
-      let firm : JournalHolds form seat own (λ region. ShowsFirmly region bodies device) =
-      elim there.firm [
-        | inl closed ↦ holds_map form seat own (λ region. ShowsClosed region bodies device) (λ region. ShowsFirmly region bodies device) (λ region c. inl c) closed
-        | inr left ↦
-            holds_map form seat own (λ region. LeavesBehind region bodies (spelling left.0) device) (λ region. ShowsFirmly region bodies device) (λ region l. inr (spelling left.0, l)) left.1.1
-      ] in
-      record {
-        rest = rest;
-        starts =
-            record {
-              same = same;
-              seat = seat;
-              low = there.stands.low;
-              holds =
-                  subst (λ (l : List (List ℕ)). JournalHolds form seat own (λ region. ShowsFirmly region l d.bytes)) (sym (between_all seat.point rs there.stands.low))
-                  (subst (λ (bytes : List ℕ). JournalHolds form seat own (λ region. ShowsFirmly region bodies bytes)) (sym same) firm);
-            };
-      }
-
-  pub stops_stand : (opening later : List Step) → EachMoment form rs made opening later device → EachStopStands form rs made (opening ++ later) device
-  stops_stand opening later each d rest same firmly before after cut image is =
-      elim (each d (begins_firmly d rest same firmly) before after cut image is) [
-        | inl shows ↦ later_stands before image firmly.1.stands.form_is shows
-        | inr within ↦
-            let shows = within.1 in
-            let number : shows.i ≡ length rs = omega (arith, shows.low, shows.high) in
-            let opened : OpenedAt form made device image (length rs) =
-            subst (λ (n : ℕ). OpenedAt form made device image n) number shows.stand in
-            opening_stands before image firmly (subst (λ (n : ℕ). SentUpTo n before) number shows.told) opened.seat opened.low opened.holds
+  pub stops_stand : (opening later : List Step) → EachMomentUnsynced form rs made opening later device → EachStopStands form rs made opening later device
+  stops_stand opening later each d none same firmly before after cut image is =
+      elim (each d (begins_firmly form rs device d none same firmly) before after cut image is) [
+        | inl so_far ↦ inl so_far
+        | inr stands ↦
+            inr (elim stands [
+              | inl shows ↦ later_stands before image firmly.1.stands.form_is shows
+              | inr within ↦
+                  let shows = within.1 in
+                  let number : shows.i ≡ length rs = omega (arith, shows.low, shows.high) in
+                  let opened : OpenedAt form made device image (length rs) =
+                  subst (λ (n : ℕ). OpenedAt form made device image n) number shows.stand in
+                  opening_stands before image firmly (subst (λ (n : ℕ). SentUpTo n before) number shows.told) opened.seat opened.low opened.holds
+            ])
       ]

@@ -3,3 +3,4 @@ mod Seats
 pub mod Moments
 pub mod Firmly
 pub mod Refusals
+pub mod Lives

@@ -7,6 +7,7 @@ use Rattle.iss_edge.specs.World.{World}
 use Rattle.iss_edge.specs.Puts.{syncs_after}
 use Rattle.iss_edge.specs.Disk.{Disk, after_action, after_actions, IsAtRest, IsImage}
 use Rattle.iss_edge.specs.Stretches.{Step, actions_of, SentUpTo, ShowsUpTo, IsGood, GoesOn, with_levels}
+use Rattle.iss_edge.proofs.Images.{failed_sync_image}
 use Rattle.iss_edge.proofs.StretchLemmas.{EndsInSecond, front_of_two, actions_of-append, actions_of-leveled, after_actions-append, after_both, sent_append, sent_weaker, sent_leveled}
 use Rattle.iss_journal.specs.Region.{ShowsFirmly, RestsFirst}
 use Rattle.iss_halves.specs.Forms.{Form, Seat}
@@ -18,8 +19,8 @@ use Rattle.iss_standing.proofs.Bodies.{first_self, first_image, first_between}
 use Rattle.iss_standing.proofs.Holds.{holds_map}
 use Rattle.iss_standing.proofs.Goings.{goes_rests}
 use Rattle.iss_opening.specs.Values.{StoreNow, form_under, seat_under}
-use Rattle.iss_opening.specs.Opening.{AreOnDevice, SyncsFirst, OpensGood, OpenedAs}
-use Rattle.iss_device.specs.Moments.{BeginsAtRest, EachMoment, AsBefore, EachMomentUnsynced, EndsAtRest}
+use Rattle.iss_opening.specs.Opening.{AreOnDevice, SyncsFirst, WritesEndGate, OpensGood, OpenedAs}
+use Rattle.iss_device.specs.Moments.{BeginsAtRest, BeginsUnsynced, EachMoment, AsBefore, EachMomentUnsynced, EndsAtRest}
 use Rattle.iss_device.proofs.Devices.{stands_opened}
 
 -- what an opening starts with may be said of more records
@@ -63,7 +64,7 @@ nothing_synced [] rest none = refl
 nothing_synced (step ∷ before) rest none = absurd cc
 
 only_failed : (d : Disk) (image : List ℕ) (before rest : List Step) → before ++ rest ≡ [] → IsImage (after_actions d (Sync false ∷ actions_of before)) image → IsImage d image
-only_failed d image [] rest none is = is
+only_failed d image [] rest none is = failed_sync_image d image is
 only_failed d image (step ∷ before) rest none is = absurd cc
 
 unsynced_moment : (opening : List Step) (added : List Action) (d : Disk) (image : List ℕ) (before rest : List Step) → opening ≡ with_levels 0 (Sync false ∷ added) → added ≡ [] → opening ++ [] ≡ before ++ rest
@@ -103,6 +104,14 @@ module _ (form : Form) (rs all : List Record) (device : List ℕ) where
 -- what an opening does is on the device alone, also with levels
 pub opening_on_device : (actions : List Action) → AreOnDevice actions → AreOnDevice (actions_of (with_levels 0 actions))
 opening_on_device actions alone = subst AreOnDevice (sym (actions_of-leveled 0 actions)) alone
+
+-- and it is what an opening may be
+pub opening_is : (actions : List Action) → SyncsFirst actions → SyncsFirst (actions_of (with_levels 0 actions))
+opening_is actions syncs = subst SyncsFirst (sym (actions_of-leveled 0 actions)) syncs
+
+pub opening_gate : (form : Form) (rs : List Record) (a b : World) (good : OpensGood a b) → WritesEndGate form rs a.device (actions_of (with_levels 0 good.added))
+opening_gate form rs a b good =
+    subst (WritesEndGate form rs a.device) (sym (actions_of-leveled 0 good.added)) (good.gate form rs)
 
 pub trace_opened : (a b : World) (good : OpensGood a b) → b.trace ≡ a.trace ++ actions_of (with_levels 0 good.added ++ [])
 trace_opened a b good =
@@ -217,6 +226,18 @@ module _ (form : Form) (seat : Seat) (rs : List Record) (s : StoreNow) (a b : Wo
         ∙ sym (after_actions-append disk opening.good.added (actions_of goes.steps)) in
         subst IsAtRest whole (going.at_rest mid (opened.at_rest disk begins.rest starts) (opened.rest disk begins.rest starts))
 
+    -- the opening's sync settles what was unsynced
+    settled_now : (disk : Disk) → after_actions (after_action disk (Sync true)) (opening.good.added ++ actions_of goes.steps) ≡ after_actions disk (opening.good.added ++ actions_of goes.steps)
+    settled_now disk =
+        let synced : opening.good.added ≡ Sync true ∷ opening.going.behind = same_opening ∙ opening.going.synced in
+        ap (λ (l : List Action). after_actions (after_action disk (Sync true)) (l ++ actions_of goes.steps)) synced
+        ∙ sym (ap (λ (l : List Action). after_actions disk (l ++ actions_of goes.steps)) synced)
+
+    calm_then : (disk : Disk) → BeginsUnsynced form rs a.device disk → IsAtRest (after_actions disk (opening.good.added ++ actions_of goes.steps))
+    calm_then disk begins =
+        subst IsAtRest (settled_now disk)
+        (calm_now (after_action disk (Sync true)) (record { rest = syncs_to_rest disk begins.none_failed; starts = begins.starts }))
+
     pub ends_at_rest : EndsAtRest form rs now (opening.good.added ++ actions_of goes.steps) a d
     ends_at_rest =
         record {
@@ -225,7 +246,7 @@ module _ (form : Form) (seat : Seat) (rs : List Record) (s : StoreNow) (a b : Wo
           begins = λ disk begins.
               let left : (after_actions disk (opening.good.added ++ actions_of goes.steps)).bytes ≡ d.device = left_now disk begins.starts.same in
               record {
-                rest = calm_now disk begins;
+                rest = calm_then disk begins;
                 starts =
                     record {
                       same = left;

@@ -10,15 +10,17 @@ use Rattle.iss_opening.proofs.GoodDevices.{opened_device}
 use Rattle.iss_opening.proofs.Telling.{told_both}
 use Rattle.iss_device.specs.Refusals.{IsNoStore, OnDeviceAlone, RefusesExactly, opening_status}
 
-alone : (a b : World) → OpensGood a b → OnDeviceAlone a b
-alone a b good = record { left = good.left; actions = good.added; grew = good.grew; on_device = good.on_device }
+-- what an opening did is on the device alone
+pub opens_alone : (a b : World) → OpensGood a b → OnDeviceAlone a b
+opens_alone a b good =
+    record { left = good.left; actions = good.added; grew = good.grew; on_device = good.on_device; opening = good.syncs }
 
 refuses : (a b : World) → IsNoStore a.device → OpensGood a b → ReadsAlone a b → RefusesExactly 4 a b
 refuses a b none good reads =
     record {
       only = λ e. (none, reads);
       there = λ found. inl refl;
-      untouched = λ found. alone a b good;
+      untouched = λ found. opens_alone a b good;
       as_before = λ found six. reads;
       others = λ four six seven. absurd (four refl);
     }
@@ -29,7 +31,7 @@ disk_refuses a b good =
     record {
       only = λ e. cc;
       there = λ found. inr (inl refl);
-      untouched = λ found. alone a b good;
+      untouched = λ found. opens_alone a b good;
       as_before = λ found six. absurd (six refl);
       others = λ four six seven. absurd (six refl);
     }
@@ -39,7 +41,7 @@ memory_refuses a b good reads =
     record {
       only = λ e. cc;
       there = λ found. inr (inr refl);
-      untouched = λ found. alone a b good;
+      untouched = λ found. opens_alone a b good;
       as_before = λ found six. reads;
       others = λ four six seven. absurd (seven refl);
     }

@@ -1,3 +1,4 @@
 pub mod Runs
 pub mod Refusals
 pub mod Moments
+pub mod Lives

@@ -77,6 +77,12 @@ pub record StandsFirmlyAt (form : Form) (seat : Seat) (rs : List Record) (device
 abbrev pub StandsFirmly : Form → List Record → List ℕ → Type 0
 StandsFirmly form rs device = (seat : Seat) × StandsFirmlyAt form seat rs device
 
+-- these records and one more, of which no text went out
+pub record HasOneMore (rs : List Record) (before : List Step) (now : List Record) : Type 0 where
+  pub r : Record
+  pub more : now ≡ rs ++ r ∷ []
+  pub untold : SentUpTo (length rs) before
+
 -- What a stop leaves stands firmly for the first of these records, or for those that stood and any one more. They are at least as many
 -- as those that stood, and as the level of each text of which a byte went out.
 pub record StopStands (form : Form) (rs made : List Record) (before : List Step) (image : List ℕ) : Type 0 where
@@ -84,19 +90,20 @@ pub record StopStands (form : Form) (rs made : List Record) (before : List Step)
   pub firm : StandsFirmly form now image
   pub least : length rs ≤ length now
   pub told : SentUpTo (length now) before
-  pub which : AreFirstOf now made ⊎ ((r : Record) × (now ≡ rs ++ r ∷ []))
+  pub which : AreFirstOf now made ⊎ HasOneMore rs before now
 
--- This holds at each moment of these steps, if it held at the start: the next run may begin with whatever a stop leaves.
-abbrev pub EachStopStands : Form → List Record → List Record → List Step → List ℕ → Type 0
-EachStopStands form rs made steps device =
-    (d : Disk) → IsAtRest d → d.bytes ≡ device → StandsFirmly form rs device
-    → (before rest : List Step) → steps ≡ before ++ rest
+-- This holds at each moment of a run, if it held of the device as it read at the start, and no write on it was left failed. Until a sync of
+-- the opening has succeeded, a stop leaves what it might have left before.
+abbrev pub EachStopStands : Form → List Record → List Record → List Step → List Step → List ℕ → Type 0
+EachStopStands form rs made opening later device =
+    (d : Disk) → ((place : ℕ) → d.failed place ≡ false) → d.bytes ≡ device → StandsFirmly form rs device
+    → (before rest : List Step) → opening ++ later ≡ before ++ rest
     → (image : List ℕ) → IsImage (after_actions d (actions_of before)) image
-    → StopStands form rs made before image
+    → AsBefore opening before d image ⊎ StopStands form rs made before image
 
--- A run that did this and began at rest ends where the next one begins. The device is at rest, reads so, and stands for these records
--- with an end gate of 0.
+-- A run that did this, on a device on which no write was left failed, ends where the next one begins. The device is at rest, reads so, and
+-- stands for these records with an end gate of 0.
 pub record EndsAtRest (form : Form) (rs now : List Record) (actions : List Action) (a b : World) : Type 0 where
   pub seat : Seat
   pub closed : RestsAt form seat now b.device (length now)
-  pub begins : (d : Disk) → BeginsAtRest form rs a.device d → BeginsAtRest form now b.device (after_actions d actions)
+  pub begins : (d : Disk) → BeginsUnsynced form rs a.device d → BeginsAtRest form now b.device (after_actions d actions)

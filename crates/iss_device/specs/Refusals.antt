@@ -8,7 +8,7 @@ use Rattle.iss_opening.specs.declared.fault.OpenFault.{OpenFault}
 use Rattle.iss_opening.specs.declared.fault.OpenFault.TheVariants.{Disk, NotFormatted, BadImage, BadRecord, BadSpelling, BadHistory, OutOfMemory}
 use Rattle.iss_opening.specs.Values.{StoreNow}
 use Rattle.iss_opening.specs.Reading.{BadImageIs, BadRecordAt, BadSpellingAt, BadHistoryAt}
-use Rattle.iss_opening.specs.Opening.{OpensStore, AreOnDevice, ReadsAlone}
+use Rattle.iss_opening.specs.Opening.{OpensStore, AreOnDevice, SyncsFirst, ReadsAlone}
 
 -- what is wrong with a device on which no store can be opened
 abbrev pub IsNoStore : List ℕ → Type 0
@@ -16,12 +16,13 @@ IsNoStore device =
     HasNoHeader device
     ⊎ ((place : ℕ) × (BadImageIs place device ⊎ (BadRecordAt place device ⊎ (BadSpellingAt place device ⊎ BadHistoryAt place device))))
 
--- no byte was taken, and nothing was done but on the device
+-- no byte was taken, and nothing was done but an opening of the device, or a part of one
 pub record OnDeviceAlone (a b : World) : Type 0 where
   pub left : b.left ≡ a.left
   pub actions : List Action
   pub grew : b.trace ≡ a.trace ++ actions
   pub on_device : AreOnDevice actions
+  pub opening : SyncsFirst actions
 
 -- the device has an image of a sound state, or is one journal, and the records after it follow one after the other
 pub record IsStoreThere (device : List ℕ) : Type 0 where

@@ -1,5 +1,5 @@
 -- What a stop leaves on a device at rest, and after one write on it.
-use Rattle.std.proofs.Common.{◌≡◌, ℕ, ◌+◌, ◌<◌, ◌≤◌, Bool, true, false, not, ◌&&◌, cond, List, [], ◌∷◌, length, take, drop, refl, sym, ◌∙◌, arith, length-drop}
+use Rattle.std.proofs.Common.{◌≡◌, ℕ, ◌+◌, ◌<◌, ◌≤◌, Bool, true, false, not, ◌&&◌, ◌||◌, cond, List, [], ◌∷◌, length, take, drop, refl, sym, ◌∙◌, arith, length-drop}
 use Rattle.std.proofs.lemmas.List.{length-take, length-take-le, get_or-take, get_or-drop}
 use Rattle.std.proofs.lemmas.Grind.{same_number_lists}
 use Rattle.std.proofs.lemmas.Bool.Decides.{nat_tests}
@@ -87,6 +87,13 @@ none_failed : (touched failed : Bool) → failed ≡ false → not false && not 
 none_failed true failed e = refl
 none_failed false failed e = rw e refl
 
+-- a sync that fails unsettles no place that was settled
+failed_settled : (touched failed : Bool) → not touched && not failed ≡ true → not (not false && touched) && not (cond false failed (touched || failed)) ≡ true
+failed_settled true true e = cc
+failed_settled true false e = cc
+failed_settled false true e = cc
+failed_settled false false e = refl
+
 -- a write and a sync that succeed leave a device at rest
 pub rests_after : (d : Disk) (at : ℕ) (bytes : List ℕ) → IsAtRest d → IsAtRest (after_actions d (Write at bytes true ∷ Sync true ∷ []))
 rests_after d at bytes rest =
@@ -96,4 +103,12 @@ rests_after d at bytes rest =
 pub rests_synced : (d : Disk) (ok : Bool) → IsAtRest d → IsAtRest (after_action d (Sync ok))
 rests_synced d true rest =
     record { settled = λ place. none_failed false (d.failed place) (second_false (d.touched place) (d.failed place) (rest.settled place)) }
-rests_synced d false rest = rest
+rests_synced d false rest = record { settled = λ place. failed_settled (d.touched place) (d.failed place) (rest.settled place) }
+
+-- what a sync that failed leaves, might have been left before it
+pub failed_sync_image : (d : Disk) (image : List ℕ) → IsImage (after_action d (Sync false)) image → IsImage d image
+failed_sync_image d image is =
+    record {
+      size = is.size;
+      settled = λ place within settled. is.settled place within (failed_settled (d.touched place) (d.failed place) settled);
+    }

@@ -6,7 +6,7 @@ use Rattle.iss_edge.specs.World.{World}
 use Rattle.iss_edge.specs.Calls.{Writes, WritesPart, Syncs, SyncsPart}
 use Rattle.iss_edge.specs.Disk.{Disk, after_action, after_actions, splice, IsAtRest, IsImage}
 use Rattle.iss_edge.specs.Puts.{Put, one_put, after_puts, actions_of_puts, Ran, Puts, PutsPart, syncs_after, Holds}
-use Rattle.iss_edge.proofs.Images.{rest_image, IsTorn, torn_image, rests_after}
+use Rattle.iss_edge.proofs.Images.{rest_image, IsTorn, torn_image, rests_after, failed_sync_image}
 
 -- a prefix of such actions consists of such actions
 pub ran_front : (puts : List Put) (x y : List Action) → Ran puts (x ++ y) → Ran puts x
@@ -34,7 +34,8 @@ synced_moment : (P : ℕ → List ℕ → Type 0) (n : ℕ) (put : Put) (puts : 
 synced_moment P n put puts d true rest h image is =
     let now = after_actions d (Write put.at put.bytes true ∷ Sync true ∷ []) in
     subst (P (suc n)) (sym (rest_image now image (rests_after d put.at put.bytes rest) is)) (holds_now P (suc n) (splice put.at put.bytes d.bytes) puts h.3)
-synced_moment P n put puts d false rest h image is = torn_moment P n put puts d true rest h image is
+synced_moment P n put puts d false rest h image is =
+    torn_moment P n put puts d true rest h image (failed_sync_image (after_action d (Write put.at put.bytes true)) image is)
 
 -- what holds at each moment of these puts holds of each image of the actions so far
 pub put_moments : (P : ℕ → List ℕ → Type 0) (n : ℕ) (puts : List Put) (d : Disk) (actions : List Action) → IsAtRest d → Holds P n d.bytes puts → Ran puts actions → (image : List ℕ) → IsImage (after_actions d actions) image → P (syncs_after n actions) image

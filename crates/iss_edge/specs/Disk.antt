@@ -17,7 +17,7 @@ pub record Disk : Type 0 where
   pub bytes : List ℕ
   -- whether a write touched the place since the last sync that succeeded
   pub touched : ℕ → Bool
-  -- whether the last write that touched the place failed
+  -- whether the last write that touched the place failed, or a sync after it and before one that succeeded
   pub failed : ℕ → Bool
 
 -- a device on which no write is under way
@@ -33,7 +33,11 @@ after_action d (Write at bytes ok) =
       failed = λ place. if touches at bytes place then not ok else d.failed place;
     }
 after_action d (Sync ok) =
-    record { bytes = d.bytes; touched = λ place. not ok && d.touched place; failed = d.failed }
+    record {
+      bytes = d.bytes;
+      touched = λ place. not ok && d.touched place;
+      failed = λ place. if ok then d.failed place else d.touched place || d.failed place;
+    }
 after_action d (Emit ch bytes ok) = d
 after_action d (Dial ch) = d
 after_action d (Close ch) = d
@@ -43,7 +47,7 @@ abbrev pub after_actions : Disk → List Action → Disk
 after_actions d [] = d
 after_actions d (action ∷ actions) = after_actions (after_action d action) actions
 
--- A place is settled if no write touched it since the last sync that succeeded, and the last write that did succeeded.
+-- A place is settled if no write touched it since the last sync that succeeded, and neither the last write that did nor a sync after it failed.
 abbrev pub is_settled : Disk → ℕ → Bool
 is_settled d place = not (d.touched place) && not (d.failed place)
 

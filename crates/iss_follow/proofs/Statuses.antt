@@ -114,9 +114,9 @@ module _ {F T : Type 0} (a b : F) (c d : T) (before now other_before other_now :
         unwritten = as_left result unwritten;
       }
     where
-      as_left : (result : Result (Unit {0}) Stop) → WhereUnwritten result (d ≡ c) → (exit_status result ≡ 4) ⊎ (exit_status result ≡ 9) → d ≡ c
-      as_left (Ok tt) left e = absurd (elim e [ inl x ↦ cc | inr x ↦ cc ])
-      as_left (Err Disk) left e = absurd (elim e [ inl x ↦ cc | inr x ↦ cc ])
+      as_left : (result : Result (Unit {0}) Stop) → WhereUnwritten result (d ≡ c) → (exit_status result ≡ 4) ⊎ ((exit_status result ≡ 9) ⊎ (exit_status result ≡ 7)) → d ≡ c
+      as_left (Ok tt) left e = absurd (elim e [ inl x ↦ cc | inr more ↦ elim more [ inl x ↦ cc | inr x ↦ cc ] ])
+      as_left (Err Disk) left e = absurd (elim e [ inl x ↦ cc | inr more ↦ elim more [ inl x ↦ cc | inr x ↦ cc ] ])
       as_left (Err Device) left e = left
       as_left (Err Memory) left e = left
       as_left (Err NoRoom) left e = left

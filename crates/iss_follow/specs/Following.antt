@@ -77,7 +77,7 @@ abbrev pub Compared : {F T Z : Type 0} → List (String Z) → (F → Faults) �
 Compared words faults other_faults told other_told from from' to to' status =
     OnSame (command_in words) (Ended status (SameDoneOn faults other_faults told other_told from from' to to'))
 
--- If a second device has another size, nothing was done at all. At 4 and 9 nothing was written on it.
+-- If a second device has another size, nothing was done at all. At 4, 7 and 9 nothing was written on it.
 pub record LeavesOther {F T : Type 0} (size extent : ℕ) (a b : F) (c d : T) (status : ℕ) : Type 0 where
   pub unopened : (extent ≡ size → ⊥) → (b ≡ a) × (d ≡ c)
-  pub unwritten : (status ≡ BAD_DEVICE) ⊎ (status ≡ NO_ROOM) → d ≡ c
+  pub unwritten : (status ≡ BAD_DEVICE) ⊎ ((status ≡ NO_ROOM) ⊎ (status ≡ OUT_OF_MEMORY)) → d ≡ c

@@ -15,12 +15,12 @@ use Rattle.iss_opening.specs.declared.fault.OpenFault.TheVariants.{OutOfMemory}
 use Rattle.iss_opening.specs.declared.taking.Taken.{Taken}
 use Rattle.iss_opening.specs.Values.{StoreNow}
 use Rattle.iss_opening.specs.Reading.{core_after}
-use Rattle.iss_opening.specs.Opening.{Opens, OpensGood}
+use Rattle.iss_opening.specs.Opening.{Opens, OpensGood, OnRefused, ReadsAlone}
 use Rattle.iss_opening.specs.Progress.{HasRead, HasReadThese, ReadsNext}
 use Rattle.iss_opening.proofs.Openings.{closing_good, closing_opens, reading_good}
 use Rattle.iss_opening.proofs.Readings.{none_read, these_read}
-use Rattle.iss_opening.proofs.Telling.{told_both}
-use Rattle.iss_opening.proofs.ToldReadings.{read_good, still, told_fault}
+use Rattle.iss_opening.proofs.Telling.{on_refused, told_both}
+use Rattle.iss_opening.proofs.ToldReadings.{read_alone, read_good, still, told_fault}
 use Rattle.iss_follow_catch.specs.Behind.{HoldSame, HasNotMet, KnowsMet, Passes, ReadsBeside, AllBeside, OpensAhead}
 use Rattle.iss_follow_catch.proofs.Moments.{finds_behind}
 
@@ -149,6 +149,10 @@ module _ (s : StoreNow) (other : CoreNow) (met : Bool) (later : List Record) (x 
   pub told_good : (z : Option World) → Told Same y z → Told OpensGood x z
   told_good z same = read_good s x y z told_read same
 
+  -- nothing was done but a sync
+  pub told_alone : (T : Type 0) (fault : OpenFault) (z : Option World) → Told Same y z → OnRefused {T = T} (Err fault) (Told ReadsAlone x z)
+  told_alone T fault z same = on_refused T fault (Told ReadsAlone x z) (read_alone s x y z told_read same)
+
   pub told_memory : Told (Opens (Err OutOfMemory)) x y
   told_memory = told_map (HasRead s) (Opens (Err OutOfMemory)) x y (λ a b r. tt) told_read
 
@@ -161,6 +165,9 @@ told_begun s x y read = (
   told_map (HasRead s) (Opens (Err OutOfMemory)) x y (λ a b r. tt) read,
   told_map (HasRead s) OpensGood x y (λ a b r. (reading_good s a b r).0) read,
 )
+
+pub told_begun_alone : (s : StoreNow) (x y : Option World) → Told (HasRead s) x y → Told ReadsAlone x y
+told_begun_alone s x y read = told_map (HasRead s) ReadsAlone x y (λ a b r. (reading_good s a b r).1) read
 
 -- ---- the end gate is closed
 

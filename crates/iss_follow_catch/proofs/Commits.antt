@@ -22,7 +22,7 @@ use Rattle.iss_store.specs.Committing.{Commits, CommitsOnBook, Keeps, KeepsPart}
 use Rattle.iss_follow_runs.specs.declared.stop.Stop.{Stop}
 use Rattle.iss_follow_runs.specs.declared.stop.Stop.TheVariants as stop
 use Rattle.iss_follow_catch.specs.Rooms.{room_on, room_behind, FitsNext, FitsAll}
-use Rattle.iss_follow_catch.specs.Committing.{TakesUp, Lasts, LastsInPart, StopsAt, WhereUnplanned, CommitRun, DiskCaused, EndsAsCommit}
+use Rattle.iss_follow_catch.specs.Committing.{TakesUp, Lasts, LastsInPart, LastsFirst, LastsSome, StopsAt, WhereLeft, WhereUnplanned, CommitRun, DiskCaused, EndsAsCommit}
 
 -- ---- rooms, one record after the other
 
@@ -289,3 +289,51 @@ cut_next rs n r within here =
 pub all_taken : (rs : List Record) (n : ℕ) → length rs ≤ n → take n rs ≡ rs
 all_taken rs n whole =
     sym (append-nil (take n rs)) ∙ ap (λ (l : List Record). take n rs ++ l) (sym (drop_all n rs whole)) ∙ take-append-drop n rs
+
+-- ---- where it ends, unless a call on the device failed
+
+pub left_so : (T : Type 0) (why : Stop) (P : Type 0) → P → WhereLeft {T = T} (Err why) P
+left_so T stop.NoRoom P p = p
+left_so T stop.NotBehind P p = p
+left_so T stop.Memory P p = p
+left_so T stop.Device P p = p
+left_so T stop.Output P p = p
+left_so T stop.Disk P p = tt
+
+pub some_none : (s : StoreNow) (a : World) → LastsSome s a a
+some_none s a rs stands = record { done = []; to = seat_under s; goes = (lasts_none s a).goes rs stands }
+
+pub some_lasts : (s t : StoreNow) (done : List Record) (a b : World) → Lasts s t done a b → LastsSome s a b
+some_lasts s t done a b lasts rs stands = record { done = done; to = seat_under t; goes = lasts.goes rs stands }
+
+pub some_keeps : (s : StoreNow) (r : Record) (a b : World) → Keeps s r a b → LastsSome s a b
+some_keeps s r a b keeps rs stands = record { done = r ∷ []; to = seat_under (store_for s r); goes = keeps.goes rs stands }
+
+some_more : (s t : StoreNow) (done : List Record) (a b c : World) → TakesUp s t done → Lasts s t done a b → LastsSome t b c → LastsSome s a c
+some_more s t done a b c takes lasts some rs stands =
+    let next : LastsFirst t (rs ++ done) b c = some (rs ++ done) (takes.stands rs stands) in
+    let later : StepsGo (form_under s) (seat_under t) next.to (rs ++ done) ((rs ++ done) ++ next.done) [] b c =
+    subst (λ (f : Form). StepsGo f (seat_under t) next.to (rs ++ done) ((rs ++ done) ++ next.done) [] b c) takes.form next.goes in
+    record {
+      done = done ++ next.done;
+      to = next.to;
+      goes =
+          subst (λ (l : List Record). StepsGo (form_under s) (seat_under s) next.to rs l [] a c) (append_assoc rs done next.done)
+          (goes_then (form_under s) (seat_under s) (seat_under t) next.to rs (rs ++ done) ((rs ++ done) ++ next.done) [] [] a b c (lasts.goes rs stands) later);
+    }
+
+module _ (s t : StoreNow) (done : List Record) (x y z : Option World) (takes : TakesUp s t done) (lasts : Told (Lasts s t done) x y) where
+  told_some : Told (LastsSome t) y z → Told (LastsSome s) x z
+  told_some some = told_then (Lasts s t done) (LastsSome t) (LastsSome s) x y z (λ a b c l p. some_more s t done a b c takes l p) lasts some
+
+  -- some records, and then the next one was committed, or not
+  pub told_left : (T U : Type 0) (why : Stop) → WhereLeft {T = T} (Err why) (Told (LastsSome t) y z) → WhereLeft {T = U} (Err why) (Told (LastsSome s) x z)
+  told_left T U stop.NoRoom left = told_some left
+  told_left T U stop.NotBehind left = told_some left
+  told_left T U stop.Memory left = told_some left
+  told_left T U stop.Device left = told_some left
+  told_left T U stop.Output left = told_some left
+  told_left T U stop.Disk left = tt
+
+  pub told_some_all : Told (LastsSome s) x y
+  told_some_all = told_map (Lasts s t done) (LastsSome s) x y (λ a b l. some_lasts s t done a b l) lasts

@@ -14,26 +14,27 @@ use Rattle.iss_opening.specs.declared.fault.OpenFault.{OpenFault}
 use Rattle.iss_opening.specs.declared.fault.OpenFault.TheVariants as open_fault
 use Rattle.iss_opening.specs.Values.{StoreNow}
 use Rattle.iss_opening.specs.Standing.{StandsFor}
-use Rattle.iss_opening.specs.Opening.{Opens, OpensGood, OpenedAs, OpenCause}
+use Rattle.iss_opening.specs.Opening.{Opens, OpensGood, OpenedAs, ReadsAlone, OnRefused, OpenCause}
 use Rattle.iss_opening.proofs.Stores.{opened_stand}
-use Rattle.iss_opening.proofs.Telling.{same_good, told_both}
+use Rattle.iss_opening.proofs.Telling.{same_alone, same_good, told_both}
 use Rattle.iss_device.proofs.Devices.{Behind, told_behind}
 use Rattle.iss_follow_runs.specs.declared.stop.Stop.{Stop}
 use Rattle.iss_follow_runs.specs.declared.stop.Stop.TheVariants as stop
 use Rattle.iss_follow_runs.specs.Statuses.{exit_status, stop_of_opening}
-use Rattle.iss_follow_runs.specs.Moments.{KeepsMoments, EndsWith}
+use Rattle.iss_follow_runs.specs.Moments.{KeepsMoments, EndsWith, EndsKept}
 use Rattle.iss_follow_runs.specs.Causes.{BothTold}
 use Rattle.iss_follow_runs.specs.Refusals.{RefusesEither}
 use Rattle.iss_follow_runs.specs.Holdings.{image_of}
 use Rattle.iss_follow_runs.proofs.Images.{image_opened, instance_opened, count_opened, room_opened}
-use Rattle.iss_follow_runs.proofs.Openings.{moments_unopened, moments_opened, moments_part, ends_opened, ends_so}
+use Rattle.iss_follow_runs.proofs.Openings.{moments_unopened, moments_opened, moments_part, ends_alone, ends_opened, ends_so}
 use Rattle.iss_follow_runs.proofs.Refusals.{first_refused, second_refused, both_opened}
-use Rattle.iss_follow_runs.proofs.Tellings.{status_of, not_status, caused_second, told_unopened_moments, told_opened_moments, told_opened_records}
+use Rattle.iss_follow_runs.proofs.Tellings.{status_of, not_status, caused_second, told_unopened_moments, told_unopened_alone, told_unopened_ends, told_opened_moments, told_opened_records, told_opened_alone, told_opened_ends}
 use Rattle.iss_follow_catch.specs.Rooms.{room_on, room_behind, FitsNext, FitsAll, FitsUpTo}
-use Rattle.iss_follow_catch.specs.Committing.{LastsInPart, CommitsAll, CommitsUpTo, CommitRun, DiskCaused, EndsAsCommit}
+use Rattle.iss_follow_catch.specs.Committing.{LastsInPart, LastsSome, WhereLeft, CommitsAll, CommitsUpTo, CommitRun, DiskCaused, EndsAsCommit}
 use Rattle.iss_follow_catch.specs.Behind.{IsPastCore, FindsCore, OpensAhead}
-use Rattle.iss_follow_catch.specs.Catching.{IsBehind, missing, caught_up, MomentsUpTo, CaughtUp, CaughtUpTo, CatchOn, CatchRun, KeepsFirst, EndsAsCatch, CatchDone}
+use Rattle.iss_follow_catch.specs.Catching.{IsBehind, missing, caught_up, MomentsUpTo, CaughtUp, CaughtUpTo, CatchOn, CatchRun, KeepsFirst, EndsFirst, EndsAsCatch, CatchDone}
 use Rattle.iss_follow_catch.proofs.Pasts.{caught_history}
+use Rattle.iss_follow_catch.proofs.Firsts.{keeps_first, quiet_part, first_some, told_first_kept}
 
 -- what holds of what both tell
 told_two : (R S : World → World → Type 0) (T : World → World → World → World → Type 0) (x y z w : Option World) → ((a b c d : World) → R a b → S c d → T a b c d) → Told R x y → Told S z w → BothTold T x y z w
@@ -42,13 +43,10 @@ told_two R S T x y z w f first second =
 
 -- ---- nothing was committed
 
-keeps_first : (c d : World) → KeepsMoments c d → KeepsFirst c d
-keeps_first c d keeps form seat rs stands = (rs, keeps form seat rs stands)
-
 module _ (form : Form) (seat : Seat) (rs : List Record) (other : Form) (other_seat : Seat) (others : List Record) (c d : World) where
   no_moments : KeepsMoments c d → DeviceStandsFor other other_seat others c.device → MomentsUpTo other others (caught_up rs others) c d
   no_moments keeps stands =
-      record { made = others; first = record { later = missing rs others; cut = refl }; moments = keeps other other_seat others stands }
+      record { made = others; first = record { later = missing rs others; cut = refl }; moments = (keeps other other_seat others stands).0 }
 
   nothing_on : (n : ℕ) → (n ≡ 0 → ⊥) → (n ≡ 9 → ⊥) → (n ≡ 10 → ⊥) → KeepsMoments c d → DeviceStandsFor other other_seat others c.device → CatchOn n form seat rs other other_seat others c d
   nothing_on n zero nine ten keeps stands =
@@ -102,9 +100,10 @@ no_output_of (open_fault.BadSpelling gate) e = cc
 no_output_of (open_fault.BadHistory gate) e = cc
 
 -- the second device wasn't opened, and nothing was done on the first
-pub to_unopened : {T : Type 0} (fault : OpenFault) (g other_before other_now : Faults) (x z w : Option World) → Told (Opens (Err fault)) z w → Told OpensGood z w → OpenCause {T = T} other_before other_now (Err fault)
+pub to_unopened : {T : Type 0} (fault : OpenFault) (g other_before other_now : Faults) (x z w : Option World) → Told (Opens (Err fault)) z w → Told OpensGood z w → OnRefused {T = StoreNow} (Err fault) (Told ReadsAlone z w)
+    → OpenCause {T = T} other_before other_now (Err fault)
     → CatchDone {A = Unit {0}} g g other_before other_now x x z w (Err (stop_of_opening fault))
-to_unopened fault g other_before other_now x z w opens good cause =
+to_unopened fault g other_before other_now x z w opens good reads cause =
     let n = status_of fault in
     let still : Told OpensGood x x = same_good x x (told_self Same x same_self) in
     record {
@@ -116,14 +115,18 @@ to_unopened fault g other_before other_now x z w opens good cause =
       moments = told_unopened_moments x x still;
       records = λ e. absurd (not_zero fault e);
       kept = told_map OpensGood KeepsFirst z w (λ c d q. keeps_first c d (moments_unopened c d q)) good;
+      quiet = told_unopened_alone x x still;
+      ended = λ six. told_map ReadsAlone EndsKept x x ends_alone (same_alone x x (told_self Same x same_self));
+      other_ended = λ six. told_first_kept z w (told_unopened_ends z w StoreNow fault six reads);
       caught = told_two OpensGood OpensGood (CatchRun n) x x z w (λ a b c d p q. nothing_caught n a b c d (not_zero fault) (not_nine fault) (not_ten fault) (moments_unopened c d q)) still good;
     }
 
 module _ (t : StoreNow) (other_before other_now : Faults) (z w : Option World) (second : Told (OpenedAs t) z w) (other_later : Later other_before other_now) where
   -- the first device wasn't opened
-  pub from_unopened : {T : Type 0} (fault : OpenFault) (before now : Faults) (x y : Option World) → Told (Opens (Err fault)) x y → Told OpensGood x y → OpenCause {T = T} before now (Err fault)
+  pub from_unopened : {T : Type 0} (fault : OpenFault) (before now : Faults) (x y : Option World) → Told (Opens (Err fault)) x y → Told OpensGood x y → OnRefused {T = StoreNow} (Err fault) (Told ReadsAlone x y)
+      → OpenCause {T = T} before now (Err fault)
       → CatchDone {A = Unit {0}} before now other_before other_now x y z w (Err (stop_of_opening fault))
-  from_unopened fault before now x y opens good cause =
+  from_unopened fault before now x y opens good reads cause =
       let n = status_of fault in
       record {
         kind = kind_of fault;
@@ -139,6 +142,9 @@ module _ (t : StoreNow) (other_before other_now : Faults) (z w : Option World) (
         moments = told_unopened_moments x y good;
         records = λ e. absurd (not_zero fault e);
         kept = told_map (OpenedAs t) KeepsFirst z w (λ c d q. keeps_first c d (moments_opened t c d q)) second;
+        quiet = told_unopened_alone x y good;
+        ended = λ six. told_unopened_ends x y StoreNow fault six reads;
+        other_ended = λ six. told_first_kept z w (told_opened_ends z w t second);
         caught =
             told_two OpensGood (OpenedAs t) (CatchRun n) x y z w
             (λ a b c d p q. nothing_caught n a b c d (not_zero fault) (not_nine fault) (not_ten fault) (moments_opened t c d q)) good second;
@@ -204,6 +210,9 @@ module _ (t : StoreNow) (other_before other_now : Faults) (z w : Option World) (
           moments = told_opened_moments x y s opened_first;
           records = λ e. absurd cc;
           kept = told_map (OpenedAs t) KeepsFirst z w (λ c d q. keeps_first c d (moments_opened t c d q)) second;
+          quiet = told_opened_alone x y s opened_first;
+          ended = λ six. told_opened_ends x y s opened_first;
+          other_ended = λ six. told_first_kept z w (told_opened_ends z w t second);
           caught =
               told_two (OpensAhead s t.core met found) (OpenedAs t) (CatchRun 10) x y z w (λ a b c d o q form seat rs stands other other_seat others there.
               not_behind_on a b c d o q form seat rs stands other other_seat others there none) first second;
@@ -300,9 +309,22 @@ module _ (t : StoreNow) (other_before other_now : Faults) (z w : Option World) (
       run_on (Err stop.Device) run part = absurd run
       run_on (Err stop.Output) run part = absurd run
 
-    module _ (is : met ≡ true) (records : List Record) (same : records ≡ found) (result : Result (Unit {0}) Stop) (other_last : Faults) (u : Option World) (kind : EndsAsCommit result) (ran : Told (CommitRun t records result) w u) (part : Told (LastsInPart t records) w u) (cause : DiskCaused other_now other_last result) where
+    module _ (is : met ≡ true) (records : List Record) (same : records ≡ found) (result : Result (Unit {0}) Stop) (other_last : Faults) (u : Option World) (kind : EndsAsCommit result) (ran : Told (CommitRun t records result) w u) (part : Told (LastsInPart t records) w u) (left : WhereLeft result (Told (LastsSome t) w u)) (cause : DiskCaused other_now other_last result) where
       committed : Told (Behind t (λ d e. CommitRun t records result d e × LastsInPart t records d e)) z u
       committed = told_behind t (λ d e. CommitRun t records result d e × LastsInPart t records d e) z w u second (told_both (CommitRun t records result) (LastsInPart t records) w u ran part)
+
+      ended_some : Told (LastsSome t) w u → Told EndsFirst z u
+      ended_some some =
+          told_map (Behind t (LastsSome t)) EndsFirst z u (λ c e p. first_some t c p.between e p.opening p.later) (told_behind t (LastsSome t) z w u second some)
+
+      left_some : (result : Result (Unit {0}) Stop) → (exit_status result ≡ 6 → ⊥) → WhereLeft result (Told (LastsSome t) w u) → Told (LastsSome t) w u
+      left_some (Ok tt) six left = left
+      left_some (Err stop.NoRoom) six left = left
+      left_some (Err stop.NotBehind) six left = left
+      left_some (Err stop.Memory) six left = left
+      left_some (Err stop.Device) six left = left
+      left_some (Err stop.Output) six left = left
+      left_some (Err stop.Disk) six left = absurd (six refl)
 
       pub catch_ran : CatchDone before now other_before other_last x y z u result
       catch_ran =
@@ -323,7 +345,10 @@ module _ (t : StoreNow) (other_before other_now : Faults) (z w : Option World) (
                 told_map (Behind t (λ d e. CommitRun t records result d e × LastsInPart t records d e)) KeepsFirst z u
                 (λ c e p form seat rs stands.
                 let part = p.later.1 rs (opened_stand t c.device form seat rs p.opening.opens stands).stands in
-                (rs ++ part.done, moments_part form seat rs t c p.between e p.opening stands (rs ++ part.done) [] part.goes)) committed;
+                (rs ++ part.done, quiet_part t c p.between e p.opening form seat rs stands (rs ++ part.done) part.goes)) committed;
+            quiet = told_opened_alone x y s opened_first;
+            ended = λ six. told_opened_ends x y s opened_first;
+            other_ended = λ six. ended_some (left_some result six left);
             caught =
                 told_two (OpensAhead s t.core met found) (Behind t (λ d e. CommitRun t records result d e × LastsInPart t records d e)) (CatchRun (exit_status result)) x y z u
                 (λ a b c e o p form seat rs stands other other_seat others there.

@@ -3,4 +3,5 @@ pub mod Commits
 pub mod Pasts
 pub mod Moments
 pub mod Beside
+pub mod Firsts
 pub mod Exits

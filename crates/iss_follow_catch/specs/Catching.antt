@@ -1,17 +1,19 @@
 -- What catching up with a device did, whatever it ended with. They go by the counts of faults and by what is told, before and after.
-use Rattle.std.specs.Prelude.{◌≡◌, ◌⊎◌, ◌≤◌, ℕ, List, ◌++◌, length, take, drop, Option, Result, Ok, Err}
-use Rattle.iss_edge.specs.declared.status.TheConstants.{DONE}
+use Rattle.std.specs.Prelude.{◌≡◌, ◌⊎◌, ◌≤◌, ℕ, List, [], ◌++◌, length, take, drop, Option, Result, Ok, Err}
+use Rattle.iss_edge.specs.declared.status.TheConstants.{DONE, DISK_FAULT}
 use Rattle.iss_edge.specs.World.{World, Told, Faults}
 use Rattle.iss_halves.specs.Forms.{Form, Seat}
 use Rattle.iss_model.specs.declared.input.Record.{Record}
 use Rattle.iss_standing.specs.Standing.{image_after, DeviceStandsFor}
-use Rattle.iss_standing.specs.Goings.{AreFirstOf}
+use Rattle.iss_standing.specs.Goings.{channel_steps, AreFirstOf}
 use Rattle.iss_standing.specs.Rooms.{room_in}
+use Rattle.iss_opening.specs.Opening.{ReadsAlone}
+use Rattle.iss_device.specs.Refusals.{OnDeviceAlone}
 use Rattle.iss_follow_runs.specs.declared.status.TheConstants.{NO_ROOM, NOT_BEHIND}
 use Rattle.iss_follow_runs.specs.declared.stop.Stop.{Stop}
 use Rattle.iss_follow_runs.specs.declared.stop.Stop.TheVariants.{Device, Output, Disk, Memory, NoRoom, NotBehind}
 use Rattle.iss_follow_runs.specs.Statuses.{exit_status}
-use Rattle.iss_follow_runs.specs.Moments.{MomentsOf, KeepsMoments, KeepsRecords, EndsWith}
+use Rattle.iss_follow_runs.specs.Moments.{MomentsOf, KeepsMoments, KeepsRecords, EndsWith, EndsKept}
 use Rattle.iss_follow_runs.specs.Causes.{IsCaused, BothTold}
 use Rattle.iss_follow_runs.specs.Refusals.{RefusesEither}
 use Rattle.iss_follow_catch.specs.Rooms.{FitsAll, FitsUpTo}
@@ -72,10 +74,17 @@ CatchRun status a b c d =
     → (other : Form) (other_seat : Seat) (others : List Record) → DeviceStandsFor other other_seat others c.device
     → CatchOn status form seat rs other other_seat others c d
 
--- whatever the first device stands for: at each moment a stop leaves the second one's records, and maybe more
+-- whatever the first device stands for: at each moment a stop leaves the second one's records, and maybe more; and nothing goes out of it
 abbrev pub KeepsFirst : World → World → Type 0
 KeepsFirst c d =
-    (form : Form) (seat : Seat) (rs : List Record) → DeviceStandsFor form seat rs c.device → (made : List Record) × MomentsOf form rs made c d
+    (form : Form) (seat : Seat) (rs : List Record) → DeviceStandsFor form seat rs c.device
+    → (made : List Record) × ((moments : MomentsOf form rs made c d) × (channel_steps moments.later ≡ []))
+
+-- nothing was done on it but maybe a sync, or the run ended where the next one begins, with the second one's records, and maybe more
+abbrev pub EndsFirst : World → World → Type 0
+EndsFirst c d =
+    (form : Form) (seat : Seat) (rs : List Record) → DeviceStandsFor form seat rs c.device
+    → ReadsAlone c d ⊎ ((made : List Record) × EndsWith form rs made c d)
 
 -- catching up doesn't end so
 abbrev pub EndsAsCatch : {A : Type 0} → Result A Stop → Type 0
@@ -99,6 +108,11 @@ pub record CatchDone {A : Type 0} (before now other_before other_now : Faults) (
   pub records : exit_status result ≡ DONE → Told KeepsRecords x y
   -- at each moment a stop leaves what stood on the second device, and maybe more
   pub kept : Told KeepsFirst z w
+  -- Nothing goes out of the first one. Unless a call on a device failed, the runs on both ended where the next ones begin, or did nothing but
+  -- maybe a sync.
+  pub quiet : Told OnDeviceAlone x y
+  pub ended : (exit_status result ≡ DISK_FAULT → ⊥) → Told EndsKept x y
+  pub other_ended : (exit_status result ≡ DISK_FAULT → ⊥) → Told EndsFirst z w
   -- what was committed, by what stands on both
   pub caught : BothTold (CatchRun (exit_status result)) x y z w
 

@@ -113,3 +113,23 @@ EndsAsCommit (Err Disk) = Unit {0}
 EndsAsCommit (Err Memory) = Unit {0}
 EndsAsCommit (Err Device) = ⊥
 EndsAsCommit (Err Output) = ⊥
+
+-- some records were made to last, and the device rests after them
+pub record LastsFirst (s : StoreNow) (rs : List Record) (a b : World) : Type 0 where
+  pub done : List Record
+  pub to : Seat
+  pub goes : StepsGo (form_under s) (seat_under s) to rs (rs ++ done) [] a b
+
+-- whichever records the store stands for
+abbrev pub LastsSome : StoreNow → World → World → Type 0
+LastsSome s a b = (rs : List Record) → StandsFor s rs → LastsFirst s rs a b
+
+-- unless a call on the device failed, this holds
+abbrev pub WhereLeft : {T : Type 0} → Result T Stop → Type 0 → Type 0
+WhereLeft (Ok value) P = P
+WhereLeft (Err NoRoom) P = P
+WhereLeft (Err NotBehind) P = P
+WhereLeft (Err Memory) P = P
+WhereLeft (Err Device) P = P
+WhereLeft (Err Output) P = P
+WhereLeft (Err Disk) P = Unit {0}

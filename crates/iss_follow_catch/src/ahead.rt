@@ -3,7 +3,7 @@ ghost use Rattle.std.specs.Prelude.{◌≡◌, ◌↔◌, ◌++◌, ◌∷◌, [
 ghost use Rattle.std.specs.List.{list_all};
 ghost use Rattle.iss_edge.specs.World.{Told};
 ghost use Rattle.iss_model.specs.texts.Spelling.{is_record};
-ghost use Rattle.iss_opening.specs.Opening.{Opens, OpensGood, OpenCause};
+ghost use Rattle.iss_opening.specs.Opening.{Opens, OpensGood, OnRefused, ReadsAlone, OpenCause};
 ghost use Rattle.iss_follow_catch.specs.Behind.{HoldSame, Passes, AllBeside, OpensAhead};
 
 use iss_codec::{decode, encode};
@@ -40,6 +40,7 @@ pub(crate) fn open_ahead<E: Edge>(
 ) -> Result<Ahead, OpenFault>
     ensures opens { IfErr result (λ fault. Told (Opens (Err fault)) (E.told edge.old) (E.told edge.new)) }
     ensures moments { Told OpensGood (E.told edge.old) (E.told edge.new) }
+    ensures refused { OnRefused result (Told ReadsAlone (E.told edge.old) (E.told edge.new)) }
     ensures ahead { IfOk result (λ a.
         Told (OpensAhead a.opened other.now a.met a.later.items) (E.told edge.old) (E.told edge.new)) }
     ensures spelled { IfOk result (λ ahead. IsTrue (list_all is_record ahead.later.items)) }
@@ -58,6 +59,7 @@ pub(crate) fn open_ahead<E: Edge>(
 fn read_beside<E: Edge>(alloc: Global, edge: &mut E, other: &Core) -> Result<Beside, OpenFault>
     ensures opens { IfErr result (λ fault. Told (Opens (Err fault)) (E.told edge.old) (E.told edge.new)) }
     ensures moments { Told OpensGood (E.told edge.old) (E.told edge.new) }
+    ensures refused { OnRefused result (Told ReadsAlone (E.told edge.old) (E.told edge.new)) }
     ensures reads { IfOk result (λ b.
         Told (AllBeside b.reading other.now b.met b.later.items) (E.told edge.old) (E.told edge.new)) }
     ensures spelled { IfOk result (λ beside. IsTrue (list_all is_record beside.later.items)) }

@@ -8,7 +8,7 @@ ghost use Rattle.iss_opening.specs.Standing.{StandsFor};
 ghost use Rattle.iss_follow_runs.specs.declared.stop.Stop.TheVariants.{Disk};
 ghost use Rattle.iss_store.specs.Planning.{IsPlanOf};
 ghost use Rattle.iss_follow_catch.specs.Rooms.{room_on, FitsNext};
-ghost use Rattle.iss_follow_catch.specs.Committing.{stop_told, IsPlanItself, TakesUp, Lasts, LastsInPart, StopsAt, WhereUnplanned, CommitRun, DiskCaused, EndsAsCommit};
+ghost use Rattle.iss_follow_catch.specs.Committing.{stop_told, IsPlanItself, TakesUp, Lasts, LastsInPart, LastsSome, StopsAt, WhereLeft, WhereUnplanned, CommitRun, DiskCaused, EndsAsCommit};
 
 use iss_edge::Edge;
 use iss_follow_runs::Stop;
@@ -27,6 +27,7 @@ pub(crate) fn commit_all<T: Edge>(
     requires spelled { IsTrue (list_all is_record records.now) }
     ensures ran { Told (CommitRun opened records.now result) (T.told to.old) (T.told to.new) }
     ensures part { Told (LastsInPart opened records.now) (T.told to.old) (T.told to.new) }
+    ensures left { WhereLeft result (Told (LastsSome opened) (T.told to.old) (T.told to.new)) }
     ensures kind { EndsAsCommit result }
     ensures cause { DiskCaused (T.faults to.old) (T.faults to.new) result }
 {
@@ -49,6 +50,7 @@ fn commit_one<T: Edge>(
     ensures takes { IfOk result (λ next. TakesUp store next (record.now ∷ [])) }
     ensures lasts { IfOk result (λ next. Told (Lasts store next (record.now ∷ [])) (T.told to.old) (T.told to.new)) }
     ensures part { Told (LastsInPart store (record.now ∷ [])) (T.told to.old) (T.told to.new) }
+    ensures left { WhereLeft result (Told (LastsSome store) (T.told to.old) (T.told to.new)) }
     ensures stops { IfErr result (StopsAt store record.now) }
     ensures unplanned { WhereUnplanned result (to.new ≡ to.old) }
     ensures cause { DiskCaused (T.faults to.old) (T.faults to.new) result }

@@ -1,5 +1,5 @@
 -- What making a device leaves is a copy, if the image is that of a history.
-use Rattle.std.proofs.Common.{◌≡◌, ◌^◌, ◌<◌, ◌≤◌, ℕ, zero, suc, inl, inr, false, List, [], ◌∷◌, ◌++◌, length, take, drop, refl, sym, ap, subst, ◌∙◌, append-nil, arith}
+use Rattle.std.proofs.Common.{◌≡◌, ◌^◌, ◌<◌, ◌≤◌, ℕ, zero, suc, inl, inr, Bool, true, false, List, [], ◌∷◌, ◌++◌, length, take, drop, refl, sym, ap, subst, ◌∙◌, append-nil, arith}
 use Rattle.std.proofs.Math.Seq.{take-length, drop-length}
 use Rattle.iss_edge.specs.declared.outside.Action.{Action}
 use Rattle.iss_edge.specs.World.{World}
@@ -8,16 +8,20 @@ use Rattle.iss_edge.specs.Puts.{syncs_after}
 use Rattle.iss_edge.proofs.Images.{rest_image}
 use Rattle.iss_journal.specs.Region.{Shows, ShowsClosed}
 use Rattle.iss_journal.proofs.Closings.{shows_closed}
+use Rattle.iss_halves.specs.Finding.{HasKind}
 use Rattle.iss_halves.specs.Forms.{in_halves, seat_at}
 use Rattle.iss_halves.specs.Halves.{IsHalvesSize, HalfRests}
 use Rattle.iss_halves.specs.Making.{MakingLeaves, Makes, MakesGood}
 use Rattle.iss_halves.specs.Standing.{JournalHolds}
 use Rattle.iss_model.specs.declared.input.Record.{Record}
 use Rattle.iss_model.specs.declared.limits.TheConstants.{MOST_RECORDS}
+use Rattle.iss_core.specs.Values.{CoreNow}
 use Rattle.iss_standing.specs.Standing.{AreHistory, IsForm, bodies_of, image_after}
 use Rattle.iss_device.proofs.Devices.{shows_stands}
 use Rattle.iss_standing.proofs.Holds.{holds_map}
-use Rattle.iss_follow_copy.specs.Copies.{IsCopy, CopyLeaves, CopiesGood, CopyMade}
+use Rattle.iss_opening.specs.Values.{StoreNow}
+use Rattle.iss_opening.specs.Opening.{OpensStore}
+use Rattle.iss_follow_copy.specs.Copies.{IsCopy, CopyLeaves, CopiesGood, CopyMade, MakesPart}
 
 module _ (instance : ℕ) (rs : List Record) (small : instance < 2 ^ 48) (history : AreHistory rs) (few : length rs ≤ MOST_RECORDS) where
   module _ (size : ℕ) (sized : IsHalvesSize size) where
@@ -74,3 +78,26 @@ nothing_copied instance rs a =
       part = record { left = refl; actions = []; trace = sym (append-nil a.trace); ran = tt };
       each = untouched instance rs a;
     }
+
+-- nothing is a part of what makes a device
+pub nothing_made : (a : World) → MakesPart a a
+nothing_made a =
+    record {
+      instance = 0;
+      image = [];
+      part = record { left = refl; actions = []; trace = sym (append-nil a.trace); ran = tt };
+    }
+
+-- ---- the instance of a store that was opened
+
+kind_small : (halved : Bool) (instance : ℕ) (second : Bool) (device : List ℕ) → HasKind halved instance second device → instance < 2 ^ 48
+kind_small true instance second device has = has.0.small
+kind_small false instance second device has = has.small
+
+pub instance_small : (s : StoreNow) (device : List ℕ) → OpensStore s device → s.core.instance < 2 ^ 48
+instance_small s device opens =
+    let small : s.layout.instance < 2 ^ 48 =
+    kind_small s.layout.halved s.layout.instance s.layout.second device opens.reads.begins.found.has.kind in
+    let own : s.core.instance ≡ s.layout.instance =
+    ap (λ (c : CoreNow). c.instance) opens.core ∙ opens.reads.begins.loaded.instance in
+    subst (λ (n : ℕ). n < 2 ^ 48) (sym own) small

@@ -17,15 +17,18 @@ use Rattle.iss_opening.specs.declared.fault.OpenFault.{OpenFault}
 use Rattle.iss_opening.specs.declared.fault.OpenFault.TheVariants as open_fault
 use Rattle.iss_opening.specs.Values.{StoreNow}
 use Rattle.iss_opening.specs.Opening.{Opens, OpensGood, OpenedAs, ReadsAlone, OnRefused, OpenCause}
-use Rattle.iss_opening.proofs.Telling.{same_good, told_both}
+use Rattle.iss_opening.proofs.Telling.{same_alone, same_good, told_both}
+use Rattle.iss_follow_runs.specs.Moments.{EndsKept}
+use Rattle.iss_follow_runs.proofs.Openings.{ends_alone}
 use Rattle.iss_follow_runs.specs.declared.stop.Stop.TheVariants as stop
 use Rattle.iss_follow_runs.specs.Statuses.{stop_of_opening}
 use Rattle.iss_follow_runs.specs.Causes.{BothTold}
 use Rattle.iss_follow_runs.specs.Holdings.{image_of}
 use Rattle.iss_follow_runs.proofs.Images.{image_opened, instance_opened}
-use Rattle.iss_follow_runs.proofs.Tellings.{status_of, not_status, caused_first, told_unopened_moments, told_unopened_refuses, told_opened_moments, told_opened_records, told_opened_refuses}
-use Rattle.iss_follow_copy.specs.Copying.{RoomExactly, CopyOn, CopyRun, EndsAsCopy, CopyDone}
-use Rattle.iss_follow_copy.proofs.Copies.{copies_good, copy_made, nothing_copied}
+use Rattle.iss_follow_runs.proofs.Tellings.{status_of, not_status, caused_first, told_unopened_moments, told_unopened_alone, told_unopened_ends, told_unopened_refuses, told_opened_moments, told_opened_records, told_opened_alone, told_opened_ends, told_opened_refuses}
+use Rattle.iss_follow_copy.specs.Copies.{MakesPart}
+use Rattle.iss_follow_copy.specs.Copying.{RoomExactly, CopyOn, CopyRun, MakesSecond, EndsAsCopy, CopyDone}
+use Rattle.iss_follow_copy.proofs.Copies.{copies_good, copy_made, nothing_copied, nothing_made, instance_small}
 
 -- ---- an end at which nothing was written on the second device, and that says nothing of the room
 
@@ -46,6 +49,9 @@ told_unwritten : (n : ℕ) (R : World → World → Type 0) (x y z : Option Worl
 told_unwritten n R x y z other told =
     told_map R (λ a b. Told (CopyRun n a b) z z) x y (λ a b r. told_self (CopyRun n a b) z (λ c. unwritten n a c other)) told
 
+told_unmade : (R : World → World → Type 0) (x y z : Option World) → Told R x y → BothTold MakesSecond x y z z
+told_unmade R x y z told = told_map R (λ a b. Told MakesPart z z) x y (λ a b r. told_self MakesPart z nothing_made) told
+
 -- ---- the second device has another size
 
 pub copy_other_size : (size extent : ℕ) (f g : Faults) (x z : Option World) → (extent ≡ size → ⊥) → CopyDone {A = Unit {0}} size extent f f g g x x z z (Err stop.Device)
@@ -59,7 +65,10 @@ copy_other_size size extent f g x z other =
       room = told_map Same (RoomExactly size 4) x x (λ a b s. no_room_told size 4 a b (λ e. absurd cc) (λ e. absurd cc)) same;
       moments = told_unopened_moments x x (same_good x x same);
       records = λ e. absurd cc;
+      quiet = told_unopened_alone x x (same_good x x same);
+      ended = λ six. told_map ReadsAlone EndsKept x x ends_alone (same_alone x x same);
       copied = told_unwritten 4 Same x x z (λ e. absurd cc) same;
+      other_part = told_unmade Same x x z same;
     }
 
 -- ---- the first device didn't open
@@ -100,7 +109,10 @@ copy_unopened T fault size extent before now g x y z same opens good reads cause
       room = told_map OpensGood (RoomExactly size (status_of fault)) x y (λ a b o. no_room_told size (status_of fault) a b (not_zero fault) (not_nine fault)) good;
       moments = told_unopened_moments x y good;
       records = λ e. absurd (not_zero fault e);
+      quiet = told_unopened_alone x y good;
+      ended = λ six. told_unopened_ends x y StoreNow fault six (refused_so T fault (Told ReadsAlone x y) reads);
       copied = told_unwritten (status_of fault) OpensGood x y z (not_zero fault) good;
+      other_part = told_unmade OpensGood x y z good;
     }
 
 -- ---- it did
@@ -117,7 +129,10 @@ module _ (s : StoreNow) (size extent : ℕ) (before now : Faults) (x y : Option 
         room = told_map (OpenedAs s) (RoomExactly size 7) x y (λ a b o. no_room_told size 7 a b (λ e. absurd cc) (λ e. absurd cc)) opened;
         moments = told_opened_moments x y s opened;
         records = λ e. absurd cc;
+        quiet = told_opened_alone x y s opened;
+        ended = λ six. told_opened_ends x y s opened;
         copied = told_unwritten 7 (OpenedAs s) x y z (λ e. absurd cc) opened;
+        other_part = told_unmade (OpenedAs s) x y z opened;
       }
 
   module _ (image : List ℕ) (is : image ≡ image_of s.core) where
@@ -140,7 +155,10 @@ module _ (s : StoreNow) (size extent : ℕ) (before now : Faults) (x y : Option 
           }) opened;
           moments = told_opened_moments x y s opened;
           records = λ e. absurd cc;
+          quiet = told_opened_alone x y s opened;
+          ended = λ six. told_opened_ends x y s opened;
           copied = told_unwritten 9 (OpenedAs s) x y z (λ e. absurd cc) opened;
+          other_part = told_unmade (OpenedAs s) x y z opened;
         }
 
     module _ (tail : List ℕ) (other_before other_now : Faults) (z w : Option World) (least : 27 ≤ size) (most : size ≤ 2 ^ 32) (fits : 5 + length image ≤ half_size size) (spelled : tail ≡ halves_tail s.core.instance image) (sized : Sized extent z) where
@@ -178,6 +196,24 @@ module _ (s : StoreNow) (size extent : ℕ) (before now : Faults) (x y : Option 
               made = λ e. copy_made form.instance rs stands.form_is.small stands.history few c d (halves_sized c long) (makes form.instance (image_after rs) (tail_for c long));
             }
 
+      -- whatever stands on the first device, that is all that was done on the second
+      part_made : (a b c d : World) → OpenedAs s a b → length c.device ≡ extent → TailMakesGood tail c d → MakesPart c d
+      part_made a b c d o long good =
+          let whole : length c.device ≡ size = long ∙ same in
+          let its : IsTailFor s.core.instance image tail c.device =
+          record {
+            is = spelled;
+            fits = subst (λ (n : ℕ). 5 + length image ≤ half_size n) (sym whole) fits;
+            most = omega (arith, whole, most);
+            small = instance_small s a.device o.opens;
+          } in
+          record { instance = s.core.instance; image = image; part = (good s.core.instance image its).part }
+
+      other_makes : Told (TailMakesGood tail) z w → BothTold MakesSecond x y z w
+      other_makes good =
+          told_map (OpenedAs s) (λ a b. Told MakesPart z w) x y
+          (λ a b o. told_sized extent (TailMakesGood tail) MakesPart z w sized (λ c d long g. part_made a b c d o long g) good) opened
+
       -- the image had room
       roomy : (n : ℕ) (a b : World) → (n ≡ 9 → ⊥) → OpenedAs s a b → RoomExactly size n a b
       roomy n a b other o =
@@ -200,10 +236,13 @@ module _ (s : StoreNow) (size extent : ℕ) (before now : Faults) (x y : Option 
             room = told_map (OpenedAs s) (RoomExactly size 0) x y (λ a b o. roomy 0 a b (λ e. absurd cc) o) opened;
             moments = told_opened_moments x y s opened;
             records = λ e. told_opened_records x y s opened;
+            quiet = told_opened_alone x y s opened;
+            ended = λ six. told_opened_ends x y s opened;
             copied =
                 told_map (OpenedAs s) (λ a b. Told (CopyRun 0 a b) z w) x y (λ a b o.
                 told_sized extent (λ c d. TailMakesGood tail c d × TailMakes tail c d) (CopyRun 0 a b) z w sized (λ c d long p form seat rs stands. run_whole form seat rs a b o stands c d long p.0 p.1)
                 (told_both (TailMakesGood tail) (TailMakes tail) z w good makes)) opened;
+            other_part = other_makes good;
           }
 
       -- a call on the second device failed
@@ -218,9 +257,12 @@ module _ (s : StoreNow) (size extent : ℕ) (before now : Faults) (x y : Option 
             room = told_map (OpenedAs s) (RoomExactly size 6) x y (λ a b o. no_room_told size 6 a b (λ e. absurd cc) (λ e. absurd cc)) opened;
             moments = told_opened_moments x y s opened;
             records = λ e. absurd cc;
+            quiet = told_opened_alone x y s opened;
+            ended = λ six. told_opened_ends x y s opened;
             copied =
                 told_map (OpenedAs s) (λ a b. Told (CopyRun 6 a b) z w) x y (λ a b o.
                 told_sized extent (TailMakesGood tail) (CopyRun 6 a b) z w sized (λ c d long g form seat rs stands. run_part form seat rs a b o stands 6 c d (λ e. absurd cc) long g) good) opened;
+            other_part = other_makes good;
           }
         where
           rose : (f : JournalFault) → DiskAlone {T = Unit {0}} (Err f) → DiskCause {T = Unit {0}} other_before other_now (Err f) → Rose other_before.disk other_now.disk

@@ -39,6 +39,12 @@ pub record CopyMade (instance : ℕ) (rs : List Record) (a b : World) : Type 0 w
   pub lasts : (d : Disk) → IsAtRest d → d.bytes ≡ a.device → (device : List ℕ)
       → IsImage (after_actions d (actions_of_puts (halves_puts instance (image_after rs)))) device → device ≡ b.device
 
+-- The puts that make a device in halves were made, or a prefix of their actions, whichever image it was for. Nothing else was done.
+pub record MakesPart (a b : World) : Type 0 where
+  pub instance : ℕ
+  pub image : List ℕ
+  pub part : PutsPart (halves_puts instance image) a b
+
 -- What stands on a device has an image that a half of a device of this size has no room for, beside its length and a gate.
 pub record HasNoRoom (size : ℕ) (device : List ℕ) : Type 0 where
   pub store : StoreNow

@@ -1,20 +1,20 @@
 -- What copying a device to another did, whatever it ended with. They go by the counts of faults and by what is told, before and after.
 use Rattle.std.specs.Prelude.{◌≡◌, ℕ, ◌+◌, ◌<◌, ◌≤◌, List, length, Option, Result, Ok, Err}
-use Rattle.iss_edge.specs.declared.status.TheConstants.{DONE, BAD_DEVICE}
+use Rattle.iss_edge.specs.declared.status.TheConstants.{DONE, BAD_DEVICE, DISK_FAULT}
 use Rattle.iss_edge.specs.World.{World, Told, Faults}
 use Rattle.iss_halves.specs.declared.layout.TheConstants.{BESIDE_IMAGE}
 use Rattle.iss_halves.specs.Forms.{Form, Seat}
 use Rattle.iss_halves.specs.Halves.{half_size}
 use Rattle.iss_model.specs.declared.input.Record.{Record}
 use Rattle.iss_standing.specs.Standing.{image_after, DeviceStandsFor}
-use Rattle.iss_device.specs.Refusals.{RefusesExactly}
+use Rattle.iss_device.specs.Refusals.{OnDeviceAlone, RefusesExactly}
 use Rattle.iss_follow_runs.specs.declared.status.TheConstants.{NO_ROOM}
 use Rattle.iss_follow_runs.specs.declared.stop.Stop.{Stop}
 use Rattle.iss_follow_runs.specs.declared.stop.Stop.TheVariants.{Device, Output, Disk, Memory, NoRoom, NotBehind}
 use Rattle.iss_follow_runs.specs.Statuses.{exit_status}
-use Rattle.iss_follow_runs.specs.Moments.{KeepsMoments, KeepsRecords}
+use Rattle.iss_follow_runs.specs.Moments.{KeepsMoments, KeepsRecords, EndsKept}
 use Rattle.iss_follow_runs.specs.Causes.{IsCaused, BothTold}
-use Rattle.iss_follow_copy.specs.Copies.{CopiesGood, CopyMade, HasNoRoom, HasRoom}
+use Rattle.iss_follow_copy.specs.Copies.{CopiesGood, CopyMade, MakesPart, HasNoRoom, HasRoom}
 
 -- Whether the image had room: exactly as the status says, and the same by the records for which the first device stands.
 pub record RoomExactly (size status : ℕ) (a b : World) : Type 0 where
@@ -33,6 +33,10 @@ pub record CopyOn (status : ℕ) (form : Form) (rs : List Record) (c d : World) 
 -- whichever records the first device stood for, if any
 abbrev pub CopyRun : ℕ → World → World → World → World → Type 0
 CopyRun status a b c d = (form : Form) (seat : Seat) (rs : List Record) → DeviceStandsFor form seat rs a.device → CopyOn status form rs c d
+
+-- what was done on the second device, even if the first stood for no records
+abbrev pub MakesSecond : World → World → World → World → Type 0
+MakesSecond a b c d = MakesPart c d
 
 -- copying doesn't end so
 abbrev pub EndsAsCopy : {A : Type 0} → Result A Stop → Type 0
@@ -59,8 +63,13 @@ pub record CopyDone {A : Type 0} (size extent : ℕ) (before now other_before ot
   -- at each moment a stop leaves what stood on the first device, and at 0 it stands there
   pub moments : Told KeepsMoments x y
   pub records : exit_status result ≡ DONE → Told KeepsRecords x y
+  -- Nothing goes out of the first one. Unless a call on a device failed, its run ended where the next one begins, or did nothing but maybe a sync.
+  pub quiet : Told OnDeviceAlone x y
+  pub ended : (exit_status result ≡ DISK_FAULT → ⊥) → Told EndsKept x y
   -- at each moment a stop leaves the second device as it was but for its first byte, or without a header, or a copy
   pub copied : BothTold (CopyRun (exit_status result)) x y z w
+  -- nothing goes out of the second device, nor is anything done on it but to make it a copy
+  pub other_part : BothTold MakesSecond x y z w
 
 -- the same by what two outsides count and tell
 abbrev pub CopyDoneOn : {A F T : Type 0} → ℕ → (T → ℕ) → (F → Faults) → (T → Faults) → (F → Option World) → (T → Option World) → F → F → T → T → Result A Stop → Type 0

@@ -5,13 +5,10 @@ use Rattle.iss_opening.specs.declared.fault.OpenFault.{OpenFault}
 use Rattle.iss_opening.specs.declared.fault.OpenFault.TheVariants as open_fault
 use Rattle.iss_opening.specs.Values.{StoreNow}
 use Rattle.iss_opening.specs.Opening.{Opens, OpensGood, OpensStore}
-use Rattle.iss_device.specs.Refusals.{IsNoStore, OnDeviceAlone}
-use Rattle.iss_device.proofs.Refusals.{opened_refuses}
+use Rattle.iss_device.specs.Refusals.{IsNoStore}
+use Rattle.iss_device.proofs.Refusals.{opens_alone, opened_refuses}
 use Rattle.iss_follow_runs.specs.Refusals.{RefusesEither}
 use Rattle.iss_follow_runs.proofs.Tellings.{status_of, one_of_three}
-
-on_device : (a b : World) → OpensGood a b → OnDeviceAlone a b
-on_device a b good = record { left = good.left; actions = good.added; grew = good.grew; on_device = good.on_device }
 
 -- what is wrong with a device of which an opening told this
 none_there : (fault : OpenFault) (a b : World) → status_of fault ≡ 4 → Opens (Err fault) a b → IsNoStore a.device
@@ -30,7 +27,7 @@ module _ (fault : OpenFault) (a b c d : World) (good : OpensGood a b) (other : O
       record {
         only = λ e. inl (none_there fault a b e opens);
         there = λ none. one_of_three fault;
-        untouched = λ e. (on_device a b good, on_device c d other);
+        untouched = λ e. (opens_alone a b good, opens_alone c d other);
       }
 
   -- the second one wasn't
@@ -39,7 +36,7 @@ module _ (fault : OpenFault) (a b c d : World) (good : OpensGood a b) (other : O
       record {
         only = λ e. inr (none_there fault c d e opens);
         there = λ none. one_of_three fault;
-        untouched = λ e. (on_device a b good, on_device c d other);
+        untouched = λ e. (opens_alone a b good, opens_alone c d other);
       }
 
 -- both were

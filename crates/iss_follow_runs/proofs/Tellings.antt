@@ -7,12 +7,12 @@ use Rattle.iss_opening.specs.declared.fault.OpenFault.{OpenFault}
 use Rattle.iss_opening.specs.declared.fault.OpenFault.TheVariants.{Disk, NotFormatted, BadImage, BadRecord, BadSpelling, BadHistory, OutOfMemory}
 use Rattle.iss_opening.specs.Values.{StoreNow}
 use Rattle.iss_opening.specs.Opening.{Opens, OpensGood, OpenedAs, ReadsAlone, OnRefused, OpenCause}
-use Rattle.iss_device.specs.Refusals.{RefusesExactly, opening_status}
-use Rattle.iss_device.proofs.Refusals.{told_refuses, opened_refuses}
+use Rattle.iss_device.specs.Refusals.{OnDeviceAlone, RefusesExactly, opening_status}
+use Rattle.iss_device.proofs.Refusals.{opens_alone, told_refuses, opened_refuses}
 use Rattle.iss_follow_runs.specs.Statuses.{exit_status, stop_of_opening}
 use Rattle.iss_follow_runs.specs.Causes.{IsCaused}
-use Rattle.iss_follow_runs.specs.Moments.{KeepsMoments, KeepsRecords}
-use Rattle.iss_follow_runs.proofs.Openings.{moments_unopened, moments_opened, ends_opened}
+use Rattle.iss_follow_runs.specs.Moments.{KeepsMoments, KeepsRecords, EndsKept}
+use Rattle.iss_follow_runs.proofs.Openings.{moments_unopened, moments_opened, ends_opened, ends_alone, ends_kept}
 
 -- the status of a fault of an opening
 abbrev pub status_of : OpenFault → ℕ
@@ -69,6 +69,19 @@ module _ (x y : Option World) where
   pub told_unopened_moments : Told OpensGood x y → Told KeepsMoments x y
   told_unopened_moments good = told_map OpensGood KeepsMoments x y moments_unopened good
 
+  pub told_unopened_alone : Told OpensGood x y → Told OnDeviceAlone x y
+  told_unopened_alone good = told_map OpensGood OnDeviceAlone x y opens_alone good
+
+  -- unless a call on the device failed
+  pub told_unopened_ends : (T : Type 0) (fault : OpenFault) → (status_of fault ≡ 6 → ⊥) → OnRefused {T = T} (Err fault) (Told ReadsAlone x y) → Told EndsKept x y
+  told_unopened_ends T Disk other reads = absurd (other refl)
+  told_unopened_ends T OutOfMemory other reads = told_map ReadsAlone EndsKept x y ends_alone reads
+  told_unopened_ends T NotFormatted other reads = told_map ReadsAlone EndsKept x y ends_alone reads
+  told_unopened_ends T (BadImage place) other reads = told_map ReadsAlone EndsKept x y ends_alone reads
+  told_unopened_ends T (BadRecord gate) other reads = told_map ReadsAlone EndsKept x y ends_alone reads
+  told_unopened_ends T (BadSpelling gate) other reads = told_map ReadsAlone EndsKept x y ends_alone reads
+  told_unopened_ends T (BadHistory gate) other reads = told_map ReadsAlone EndsKept x y ends_alone reads
+
   pub told_unopened_refuses : (fault : OpenFault) → Told (Opens (Err fault)) x y → Told OpensGood x y → OnRefused {T = StoreNow} (Err fault) (Told ReadsAlone x y) → Told (RefusesExactly (status_of fault)) x y
   told_unopened_refuses fault opens good reads =
       subst (λ (status : ℕ). Told (RefusesExactly status) x y) (status_is fault) (told_refuses fault x y opens good reads)
@@ -79,6 +92,12 @@ module _ (x y : Option World) where
 
     pub told_opened_records : Told KeepsRecords x y
     told_opened_records = told_map (OpenedAs s) KeepsRecords x y (ends_opened s) opened
+
+    pub told_opened_ends : Told EndsKept x y
+    told_opened_ends = told_map (OpenedAs s) EndsKept x y (λ a b o. ends_kept a b (ends_opened s a b o)) opened
+
+    pub told_opened_alone : Told OnDeviceAlone x y
+    told_opened_alone = told_map (OpenedAs s) OnDeviceAlone x y (λ a b o. opens_alone a b o.good) opened
 
     pub told_opened_refuses : (status : ℕ) → (status ≡ 4 → ⊥) → Told (RefusesExactly status) x y
     told_opened_refuses status other =

@@ -28,13 +28,14 @@ use Rattle.iss_standing.proofs.Few.{few_stand}
 use Rattle.iss_standing.proofs.NextRecords.{history_taken}
 use Rattle.iss_opening.specs.Values.{StoreNow, seat_under}
 use Rattle.iss_opening.specs.Reading.{BeginsWith}
-use Rattle.iss_opening.specs.Opening.{OpensStore, OpensGood, OpensGoing, is_on_device, AreOnDevice, SyncsFirst}
+use Rattle.iss_opening.specs.Opening.{OpensStore, OpensGood, OpensGoing, is_on_device, AreOnDevice, SyncsFirst, IsWriteAt, AreWritesAt}
 use Rattle.iss_opening.specs.Progress.{HasReadAll}
 use Rattle.iss_opening.specs.Going.{ReadingIsGood, ClosingIsGood, ClosingOpens}
 use Rattle.iss_opening.proofs.Afters.{count_on_book}
 use Rattle.iss_opening.proofs.Held.{no_image}
 use Rattle.iss_opening.proofs.Stands.{all_later, forms, image_is, point_is, point_of_one, same, stands_for_none}
 use Rattle.iss_opening.proofs.Images.{loaded_stands}
+use Rattle.iss_opening.proofs.Stores.{gate_found}
 
 -- ---- what is done on the device
 
@@ -50,6 +51,13 @@ ran_on_device (put ∷ puts) (write ∷ sync ∷ []) ran =
     (action_on_device write (Write put.at put.bytes true) ran.1 refl, (action_on_device sync (Sync ran.0) ran.2 refl, tt))
 ran_on_device (put ∷ puts) (write ∷ sync ∷ action ∷ more) ran =
     (action_on_device write (Write put.at put.bytes true) ran.0 refl, (action_on_device sync (Sync true) ran.1 refl, ran_on_device puts (action ∷ more) ran.2))
+
+-- puts of one byte at a gate, or a prefix of them, write nothing else
+ran_at_gate : (gate : ℕ) (actions : List Action) → Ran (one_put gate (0 ∷ [])) actions → AreWritesAt gate actions
+ran_at_gate gate [] ran = tt
+ran_at_gate gate (write ∷ []) ran = (subst (IsWriteAt gate) (sym ran.1) refl, tt)
+ran_at_gate gate (write ∷ sync ∷ []) ran = (subst (IsWriteAt gate) (sym ran.1) refl, (subst (IsWriteAt gate) (sym ran.2) tt, tt))
+ran_at_gate gate (write ∷ sync ∷ action ∷ more) ran = absurd ran.2
 
 -- ---- nothing but a sync was done
 
@@ -76,11 +84,12 @@ did_nothing a b left trace =
       grew = trace ∙ sym (append-nil a.trace);
       on_device = tt;
       syncs = tt;
+      gate = λ form rs seat stands. tt;
       good = λ form seat rs all steps stands first e. (none_goes_on (OpensAt form all a.device) (OpenedAt form all a.device) (length rs) steps (λ bytes opens. opens_same form all a.device bytes (length rs) opens) e).good;
     }
 
 syncs_alone : (ok : Bool) → SyncsFirst (Sync ok ∷ [])
-syncs_alone true = tt
+syncs_alone true = (0, tt)
 syncs_alone false = refl
 
 pub only_synced : (a b : World) (ok : Bool) → b.left ≡ a.left → b.trace ≡ a.trace ++ Sync ok ∷ [] → OpensGood a b
@@ -91,6 +100,7 @@ only_synced a b ok left trace =
       grew = trace;
       on_device = (refl, tt);
       syncs = syncs_alone ok;
+      gate = λ form rs seat stands. (tt, tt);
       good =
           λ form seat rs all steps stands first e.
           (sync_goes_on (OpensAt form all a.device) (OpenedAt form all a.device) (length rs) ok steps (λ bytes opens. opens_same form all a.device bytes (length rs) opens) e).good;
@@ -110,6 +120,18 @@ is_read s a b all =
     subst (λ (d : List ℕ). IsRead s.layout all.read.image (bodies_of all.read.rs) s.place d) (sym all.read.synced.device)
     (record { found = all.read.reads.begins.found; read = all.read.reads.read; shut = all.shut })
 
+pub opens_store : (s : StoreNow) (a b : World) → HasReadAll s a b → OpensStore s a.device
+opens_store s a b all =
+    record {
+      image = all.read.image;
+      start = all.read.start;
+      rs = all.read.rs;
+      reads = all.read.reads;
+      shut = all.shut;
+      core = all.read.core;
+      point = all.read.point;
+    }
+
 -- a sync, reads, and then the end gate was closed, or a part of that was done
 pub closing_good : ClosingIsGood
 closing_good s a b d all closes =
@@ -123,7 +145,10 @@ closing_good s a b d all closes =
           ∙ ap (λ (t : List Action). t ++ closes.part.actions) synced.trace
           ∙ append_assoc a.trace (Sync true ∷ []) closes.part.actions;
       on_device = (refl, ran_on_device (one_put s.place.gate (0 ∷ [])) closes.part.actions closes.part.ran);
-      syncs = tt;
+      syncs = (s.place.gate, closes.part.ran);
+      gate = λ form rs seat stands.
+          let found = gate_found s a.device form seat rs (opens_store s a b all) stands in
+          (tt, subst (λ (place : ℕ). AreWritesAt place closes.part.actions) found (ran_at_gate s.place.gate closes.part.actions closes.part.ran));
       good =
           λ form seat rs later steps stands first e.
           let starts = OpensAt form_is later b.device in
@@ -215,18 +240,6 @@ goes_on s a b d all closes =
     }
 
 -- ---- what was opened
-
-pub opens_store : (s : StoreNow) (a b : World) → HasReadAll s a b → OpensStore s a.device
-opens_store s a b all =
-    record {
-      image = all.read.image;
-      start = all.read.start;
-      rs = all.read.rs;
-      reads = all.read.reads;
-      shut = all.shut;
-      core = all.read.core;
-      point = all.read.point;
-    }
 
 pub closing_opens : ClosingOpens
 closing_opens s a b d all good closes =

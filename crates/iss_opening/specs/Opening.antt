@@ -1,15 +1,18 @@
 -- What opening a device finds, and what it leaves at each of its moments.
-use Rattle.std.specs.Prelude.{◌≡◌, ◌⊎◌, ℕ, Bool, true, false, List, [], ◌∷◌, ◌++◌, length, Result, Ok, Err, IsErrOf, slice_index}
+use Rattle.std.specs.Prelude.{◌≡◌, ◌⊎◌, ℕ, ◌+◌, Bool, true, false, List, [], ◌∷◌, ◌++◌, length, take, drop, Result, Ok, Err, IsErrOf, slice_index}
 use Rattle.iss_edge.specs.declared.outside.Action.{Action}
 use Rattle.iss_edge.specs.declared.outside.Action.TheVariants.{Write, Sync, Emit, Dial, Close}
 use Rattle.iss_edge.specs.World.{World, Faults, Later, Rose}
 use Rattle.iss_edge.specs.Disk.{Disk, after_actions}
+use Rattle.iss_edge.specs.Puts.{one_put, Ran}
 use Rattle.iss_edge.specs.Stretches.{Step, actions_of, IsGood, GoesOn}
+use Rattle.iss_journal.specs.Region.{frames}
 use Rattle.iss_halves.specs.Forms.{Form, Seat}
+use Rattle.iss_halves.specs.Standing.{first_gate}
 use Rattle.iss_halves.specs.Making.{HasNoHeader}
 use Rattle.iss_model.specs.declared.input.Record.{Record}
 use Rattle.iss_core.specs.Values.{CoreNow}
-use Rattle.iss_standing.specs.Standing.{DeviceStandsFor, OpensAt, OpenedAt, RestsAt}
+use Rattle.iss_standing.specs.Standing.{bodies_of, image_after, DeviceStandsFor, OpensAt, OpenedAt, RestsAt}
 use Rattle.iss_standing.specs.Goings.{AreFirstOf}
 use Rattle.iss_opening.specs.declared.fault.OpenFault.{OpenFault}
 use Rattle.iss_opening.specs.declared.fault.OpenFault.TheVariants as open_fault
@@ -106,25 +109,47 @@ OnRefused (Err (open_fault.BadRecord place)) P = P
 OnRefused (Err (open_fault.BadSpelling gate)) P = P
 OnRefused (Err (open_fault.BadHistory gate)) P = P
 
--- no write stands before the first sync, and after a sync that failed nothing was done
+-- An opening is a sync and no more, or then one byte of 0 that is put at a gate, or a part of that. After a sync that failed nothing was done.
 abbrev pub SyncsFirst : List Action → Type 0
 SyncsFirst [] = Unit {0}
-SyncsFirst (Sync true ∷ more) = Unit {0}
+SyncsFirst (Sync true ∷ more) = (gate : ℕ) × Ran (one_put gate (0 ∷ [])) more
 SyncsFirst (Sync false ∷ more) = more ≡ []
 SyncsFirst (Write at bytes ok ∷ more) = ⊥
 SyncsFirst (Emit ch bytes ok ∷ more) = ⊥
 SyncsFirst (Dial ch ∷ more) = ⊥
 SyncsFirst (Close ch ∷ more) = ⊥
 
+-- if this is a write, it begins at this place
+abbrev pub IsWriteAt : ℕ → Action → Type 0
+IsWriteAt place (Write at bytes ok) = at ≡ place
+IsWriteAt place (Sync ok) = Unit {0}
+IsWriteAt place (Emit ch bytes ok) = Unit {0}
+IsWriteAt place (Dial ch) = Unit {0}
+IsWriteAt place (Close ch) = Unit {0}
+
+-- each write among these begins at this place
+abbrev pub AreWritesAt : ℕ → List Action → Type 0
+AreWritesAt place [] = Unit {0}
+AreWritesAt place (action ∷ actions) = IsWriteAt place action × AreWritesAt place actions
+
+-- the place of the end gate of these records, at this seat
+abbrev pub end_gate_at : Form → Seat → List Record → ℕ
+end_gate_at form seat rs = first_gate form seat (image_after (take seat.point rs)) + length (frames (bodies_of (drop seat.point rs)))
+
+-- at whichever seat the device stands for these records, each write among these is at their end gate
+abbrev pub WritesEndGate : Form → List Record → List ℕ → List Action → Type 0
+WritesEndGate form rs device actions = (seat : Seat) → DeviceStandsFor form seat rs device → AreWritesAt (end_gate_at form seat rs) actions
+
 -- What an opening does is good, whichever records the device stands for at its start, and whichever may come after them: each image of each
 -- moment stands for them, with nothing left behind or with what was left behind at the start, or for that record too. The opening begins
--- with a sync.
+-- with a sync, and writes nothing but the end gate.
 pub record OpensGood (a b : World) : Type 0 where
   pub left : b.left ≡ a.left
   pub added : List Action
   pub grew : b.trace ≡ a.trace ++ added
   pub on_device : AreOnDevice added
   pub syncs : SyncsFirst added
+  pub gate : (form : Form) (rs : List Record) → WritesEndGate form rs a.device added
   pub good : (form : Form) (seat : Seat) (rs all : List Record) (steps : List Step)
       → DeviceStandsFor form seat rs a.device → AreFirstOf rs all → actions_of steps ≡ added
       → IsGood (OpensAt form all a.device) (OpenedAt form all a.device) (length rs) (length rs) steps

@@ -43,7 +43,7 @@ use Rattle.iss_device.specs.Moments.{EachMoment, EachMomentUnsynced, EachStopSta
 use Rattle.iss_device.proofs.Devices.{stands_opened, run_opened, rests_stands}
 use Rattle.iss_standing.proofs.Bodies.{first_self}
 use Rattle.iss_device.proofs.Firmly.{stops_stand}
-use Rattle.iss_device.proofs.Moments.{opening_on_device, trace_opened, not_opened_moments, not_opened_unsynced, opened_moments, opened_unsynced, rests_now, ends_at_rest}
+use Rattle.iss_device.proofs.Moments.{opening_on_device, opening_is, opening_gate, trace_opened, not_opened_moments, not_opened_unsynced, opened_moments, opened_unsynced, rests_now, ends_at_rest}
 use Rattle.iss_serve.specs.Goings.{records_in, SessionGoesPart}
 use Rattle.iss_serve.specs.Runs.{EndsWith}
 use Rattle.iss_serve.specs.ServeRuns.{session_on_device, session_then, steps_said, records_then, IsDoneInPart, DoneAt, AllClosed, ServeOn}
@@ -232,6 +232,8 @@ module _ (turns : ℕ) (form : Form) (seat : Seat) (rs : List Record) (s : Store
         opening = first_steps;
         later = part.steps;
         opening_alone = opening_on_device opening.good.added opening.good.on_device;
+        opening_is = opening_is opening.good.added opening.good.syncs;
+        opening_gate = opening_gate form rs a.world b.world opening.good;
         grew = grew;
         done = done_at status start p.happenings (channel_steps steps) not_done (record { undone = p.undone; cut = cut });
         sent = λ ch.
@@ -242,7 +244,7 @@ module _ (turns : ℕ) (form : Form) (seat : Seat) (rs : List Record) (s : Store
         unsynced = opened_unsynced form seat rs s a.world b.world opening stands all p.said d.world part;
         stops =
             stops_stand form rs all a.world.device part.more (part.history stands.history) (λ halved. few_made all part.few) first_steps part.steps
-            (opened_moments form seat rs s a.world b.world opening stands all p.said d.world part);
+            (opened_unsynced form seat rs s a.world b.world opening stands all p.said d.world part);
         whole = λ e. absurd (not_done e);
         ended = λ other. elim p.whole [
           | inl goes ↦ inr (whole_ends goes.0 all p.said part (goes_there goes.0 p.happenings (session_then start p.happenings) p.said refl goes.1))
@@ -288,6 +290,8 @@ module _ (turns : ℕ) (form : Form) (seat : Seat) (rs : List Record) (s : Store
         opening = first_steps;
         later = part_steps;
         opening_alone = opening_on_device opening.good.added opening.good.on_device;
+        opening_is = opening_is opening.good.added opening.good.syncs;
+        opening_gate = opening_gate form rs a.world b.world opening.good;
         grew = grew;
         done =
             record {
@@ -300,7 +304,7 @@ module _ (turns : ℕ) (form : Form) (seat : Seat) (rs : List Record) (s : Store
         unsynced = opened_unsynced form seat rs s a.world b.world opening stands all said d.world part;
         stops =
             stops_stand form rs all a.world.device part.more (part.history stands.history) (λ halved. few_made all part.few) first_steps part_steps
-            (opened_moments form seat rs s a.world b.world opening stands all said d.world part);
+            (opened_unsynced form seat rs s a.world b.world opening stands all said d.world part);
         whole = λ e.
             record {
               came = p.came;
@@ -345,6 +349,8 @@ not_opened turns status form seat rs a b not_done not_device good reads quiet st
       opening = with_levels 0 good.added;
       later = [];
       opening_alone = opening_on_device good.added good.on_device;
+      opening_is = opening_is good.added good.syncs;
+      opening_gate = opening_gate form rs a.world b.world good;
       grew = grew;
       done = done_at status start [] (channel_steps steps) not_done (record { undone = []; cut = sym (append-nil (channel_steps steps) ∙ none) });
       sent = λ ch.
@@ -358,8 +364,8 @@ not_opened turns status form seat rs a b not_done not_device good reads quiet st
           subst (λ (l : List Record). EachMomentUnsynced form rs l (with_levels 0 good.added) [] a.world.device) (sym (append-nil rs))
           (not_opened_unsynced form seat rs a.world b.world good stands);
       stops =
-          subst (λ (l : List Record). EachStopStands form rs l (with_levels 0 good.added ++ []) a.world.device) (sym (append-nil rs))
-          (stops_stand form rs rs a.world.device (first_self rs) stands.history stands.few (with_levels 0 good.added) [] (not_opened_moments form seat rs a.world b.world good stands));
+          subst (λ (l : List Record). EachStopStands form rs l (with_levels 0 good.added) [] a.world.device) (sym (append-nil rs))
+          (stops_stand form rs rs a.world.device (first_self rs) stands.history stands.few (with_levels 0 good.added) [] (not_opened_unsynced form seat rs a.world b.world good stands));
       whole = λ e. absurd (not_done e);
       ended = λ other. inl (reads other);
       other_device = not_device;

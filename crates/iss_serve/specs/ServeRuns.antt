@@ -20,7 +20,7 @@ use Rattle.iss_session_examples.specs.Program.{program_readers}
 use Rattle.iss_standing.specs.Standing.{AreHistory, DeviceStandsFor}
 use Rattle.iss_standing.specs.Rooms.{seat_of}
 use Rattle.iss_standing.specs.Goings.{channel_steps}
-use Rattle.iss_opening.specs.Opening.{AreOnDevice, ReadsAlone}
+use Rattle.iss_opening.specs.Opening.{AreOnDevice, SyncsFirst, WritesEndGate, ReadsAlone}
 use Rattle.iss_device.specs.Runs.{run_on}
 use Rattle.iss_device.specs.Moments.{EachMoment, EachMomentUnsynced, EachStopStands, EndsAtRest}
 use Rattle.iss_serve.specs.declared.fault.ServeFault.{ServeFault}
@@ -104,13 +104,15 @@ pub record ServeOn (turns status : ℕ) (form : Form) (rs : List Record) (s : Se
   pub opening : List Step
   pub later : List Step
   pub opening_alone : AreOnDevice (actions_of opening)
+  pub opening_is : SyncsFirst (actions_of opening)
+  pub opening_gate : WritesEndGate form rs a.world.device (actions_of opening)
   pub grew : b.world.trace ≡ a.world.trace ++ actions_of (opening ++ later)
   pub done : DoneAt status s happenings (channel_steps (opening ++ later))
   pub sent : (ch : ℕ) → SentInPart ch (steps_said s happenings) a.world b.world
   pub history : AreHistory (records_then rs s happenings)
   pub moments : EachMoment form rs (records_then rs s happenings) opening later a.world.device
   pub unsynced : EachMomentUnsynced form rs (records_then rs s happenings) opening later a.world.device
-  pub stops : EachStopStands form rs (records_then rs s happenings) (opening ++ later) a.world.device
+  pub stops : EachStopStands form rs (records_then rs s happenings) opening later a.world.device
   pub whole : status ≡ DONE → ServedWhole form rs s happenings (actions_of (opening ++ later)) a.world b.world
   pub ended : (status ≡ DISK_FAULT → ⊥)
       → ReadsAlone a.world b.world ⊎ EndsAtRest form rs (records_then rs s happenings) (actions_of (opening ++ later)) a.world b.world

@@ -63,12 +63,12 @@ module _ (form : Form) where
       }
 
   -- what goes on is good
-  pub goes_part : (x y : Seat) (rs rs' : List Record) (t : List Step) (a b : World) → StepsGo form x y rs rs' t a b → StepsGoPart form x rs rs' t a b
+  unfoldable pub goes_part : (x y : Seat) (rs rs' : List Record) (t : List Step) (a b : World) → StepsGo form x y rs rs' t a b → StepsGoPart form x rs rs' t a b
   goes_part x y rs rs' t a b f =
       record { more = f.more; steps = f.steps; grew = f.grew; done = f.done; good = λ all first. (f.goes_on all first).good; history = f.history; few = f.few }
 
   -- what neither does anything nor changes the device
-  pub goes_still : (x y : Seat) (rs rs' : List Record) (t : List Step) (a b c : World) → StepsGo form x y rs rs' t a b → c.device ≡ b.device → c.trace ≡ b.trace → StepsGo form x y rs rs' t a c
+  unfoldable pub goes_still : (x y : Seat) (rs rs' : List Record) (t : List Step) (a b c : World) → StepsGo form x y rs rs' t a b → c.device ≡ b.device → c.trace ≡ b.trace → StepsGo form x y rs rs' t a c
   goes_still x y rs rs' t a b c f device trace =
       record {
         more = f.more;
@@ -83,13 +83,13 @@ module _ (form : Form) where
 
   -- ---- what is said alone
 
-  on_channels : (steps : List Step) → AreStill (actions_of steps) → channel_steps steps ≡ steps
+  pub on_channels : (steps : List Step) → AreStill (actions_of steps) → channel_steps steps ≡ steps
   on_channels [] still = refl
   on_channels (step ∷ steps) still =
       ap (λ (b : Bool). cond b (step ∷ channel_steps steps) (channel_steps steps)) still.0
       ∙ ap (λ (l : List Step). step ∷ l) (on_channels steps still.1)
 
-  pub still_goes : (x : Seat) (rs : List Record) (steps : List Step) (a b : World) → AreStill (actions_of steps) → SentUpTo (length rs) steps → b.device ≡ a.device → b.trace ≡ a.trace ++ actions_of steps → StepsGo form x x rs rs steps a b
+  unfoldable pub still_goes : (x : Seat) (rs : List Record) (steps : List Step) (a b : World) → AreStill (actions_of steps) → SentUpTo (length rs) steps → b.device ≡ a.device → b.trace ≡ a.trace ++ actions_of steps → StepsGo form x x rs rs steps a b
   still_goes x rs steps a b still sent device trace =
       record {
         more = first_self rs;
@@ -102,7 +102,7 @@ module _ (form : Form) where
         few = λ n. n;
       }
 
-  pub nothing_goes : (x : Seat) (rs : List Record) (a : World) → StepsGo form x x rs rs [] a a
+  unfoldable pub nothing_goes : (x : Seat) (rs : List Record) (a : World) → StepsGo form x x rs rs [] a a
   nothing_goes x rs a = still_goes x rs [] a a tt tt refl (sym (append-nil a.trace))
 
   -- ---- where the run ends

@@ -13,7 +13,7 @@ use Rattle.iss_opening.specs.Opening.{OpensGood, OpenedAs}
 use Rattle.iss_standing.proofs.Bodies.{first_self}
 use Rattle.iss_standing.proofs.Few.{few_stand}
 use Rattle.iss_device.proofs.Firmly.{stops_stand}
-use Rattle.iss_device.proofs.Moments.{opening_on_device, trace_opened, not_opened_moments, not_opened_unsynced, trace_behind, opened_moments, opened_unsynced}
+use Rattle.iss_device.proofs.Moments.{opening_on_device, opening_is, opening_gate, trace_opened, not_opened_moments, not_opened_unsynced, trace_behind, opened_moments, opened_unsynced}
 use Rattle.iss_top.specs.Replaying.{levels_of, TextsGoPart}
 use Rattle.iss_top.specs.Replays.{MomentsOf}
 use Rattle.iss_top.proofs.Beginnings.{levels_behind}
@@ -26,16 +26,19 @@ moments_unopened form seat rs more texts a b good stands legal =
       opening = with_levels 0 good.added;
       later = [];
       opening_alone = opening_on_device good.added good.on_device;
+      opening_is = opening_is good.added good.syncs;
+      opening_gate = opening_gate form rs a b good;
       grew = trace_opened a b good;
       legal = legal;
       made = rs;
+      more = first_self rs;
       first = record { later = more; cut = refl };
       history = stands.history;
       levels = (levels_of texts, ap (λ (l : List ℕ). l ++ levels_of texts) (sym (levels_behind good.added [] good.on_device)));
       each = not_opened_moments form seat rs a b good stands;
       unsynced = not_opened_unsynced form seat rs a b good stands;
       stops =
-          stops_stand form rs rs a.device (first_self rs) stands.history stands.few (with_levels 0 good.added) [] (not_opened_moments form seat rs a b good stands);
+          stops_stand form rs rs a.device (first_self rs) stands.history stands.few (with_levels 0 good.added) [] (not_opened_unsynced form seat rs a b good stands);
     }
 
 -- a run on the store that was opened
@@ -46,9 +49,12 @@ moments_opened failed form seat rs all rs' texts s a b d opening stands legal fi
       opening = with_levels 0 opening.good.added;
       later = goes.part.steps;
       opening_alone = opening_on_device opening.good.added opening.good.on_device;
+      opening_is = opening_is opening.good.added opening.good.syncs;
+      opening_gate = opening_gate form rs a b opening.good;
       grew = trace_behind form seat rs s a b opening stands d goes.part.steps goes.part.grew;
       legal = legal;
       made = rs';
+      more = goes.part.more;
       first = first;
       history = goes.part.history stands.history;
       levels = (
@@ -61,5 +67,5 @@ moments_opened failed form seat rs all rs' texts s a b d opening stands legal fi
       stops =
           stops_stand form rs rs' a.device goes.part.more (goes.part.history stands.history) (λ halved. goes.part.few (few_stand form seat rs a.device stands))
           (with_levels 0 opening.good.added) goes.part.steps
-          (opened_moments form seat rs s a b opening stands rs' goes.said d goes.part);
+          (opened_unsynced form seat rs s a b opening stands rs' goes.said d goes.part);
     }

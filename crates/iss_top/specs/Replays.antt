@@ -14,7 +14,7 @@ use Rattle.iss_halves.specs.Forms.{Form, Seat}
 use Rattle.iss_standing.specs.Standing.{AreHistory, DeviceStandsFor}
 use Rattle.iss_standing.specs.Rooms.{seat_of}
 use Rattle.iss_standing.specs.Goings.{AreFirstOf}
-use Rattle.iss_opening.specs.Opening.{AreOnDevice, ReadsAlone}
+use Rattle.iss_opening.specs.Opening.{AreOnDevice, SyncsFirst, WritesEndGate, ReadsAlone}
 use Rattle.iss_texts.specs.Sending.{emits, GoOut}
 use Rattle.iss_device.specs.Runs.{run_on}
 use Rattle.iss_device.specs.Moments.{EachMoment, EachMomentUnsynced, EachStopStands, EndsAtRest}
@@ -85,9 +85,12 @@ pub record MomentsOf (form : Form) (rs all : List Record) (texts : List Text) (a
   pub opening : List Step
   pub later : List Step
   pub opening_alone : AreOnDevice (actions_of opening)
+  pub opening_is : SyncsFirst (actions_of opening)
+  pub opening_gate : WritesEndGate form rs a.device (actions_of opening)
   pub grew : b.trace ≡ a.trace ++ actions_of (opening ++ later)
   pub legal : IsLegal all
   pub made : List Record
+  pub more : AreFirstOf rs made
   pub first : AreFirstOf made all
   pub history : AreHistory made
   -- each text that was sent has its level, in the order of the texts
@@ -96,7 +99,7 @@ pub record MomentsOf (form : Form) (rs all : List Record) (texts : List Text) (a
   pub each : EachMoment form rs made opening later a.device
   pub unsynced : EachMomentUnsynced form rs made opening later a.device
   -- the next run may begin with what a stop leaves
-  pub stops : EachStopStands form rs made (opening ++ later) a.device
+  pub stops : EachStopStands form rs made opening later a.device
 
 -- every moment of a run that takes lines, on a device that stands firmly for these records
 abbrev pub EveryMoment : Form → Seat → List Record → World → World → Type 0

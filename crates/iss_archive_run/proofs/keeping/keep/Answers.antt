@@ -160,5 +160,6 @@ returns-clause-done g c =
       later = c.keep_steps.ensures.later;
     }) in
     let head : c.keep_steps.result ≡ Ok c.in_ok-head.head = search rules in
+    let is : c.as_slice-3.result.now ≡ archived_line c.posts_in.result c.in_ok-opened.opened.core.state.count = search rules in
     exactly (unsent s list before now x y told later i j v w l m c.keep_steps.result k c.in_ok-head.head head (record { 0 = 0 }) c.as_slice-3.result.now (g.E.Edge.faults c.emit.new.self) (g.E.Edge.told c.emit.new.self)
-    c.emit.ensures.cause.later (rw c.in-Err.is at c.emit.ensures.cause.failed) (rw c.in-Err.is at c.emit.ensures.part))
+    c.emit.ensures.cause.later c.posts_in.result c.posts_in.ensures refl is (rw c.in-Err.is at c.emit.ensures.cause.failed) (rw c.in-Err.is at c.emit.ensures.part))

@@ -3,12 +3,19 @@ use Rattle.std.specs.Prelude.{Err, ◌↔◌, IsTrue}
 use Rattle.iss_edge.proofs.Tolds.{later_then}
 use Rattle.iss_halves.specs.Forms.{Layout}
 use Rattle.iss_follow_catch.specs.Behind.{HoldSame, Passes}
-use Rattle.iss_follow_catch.proofs.Beside.{told_all, told_begun, told_first, told_good, told_next, told_stopped}
+use Rattle.iss_opening.specs.declared.fault.OpenFault.TheVariants.{OutOfMemory}
+use Rattle.iss_opening.specs.Values.{StoreNow}
+use Rattle.iss_follow_catch.proofs.Beside.{told_all, told_alone, told_begun, told_begun_alone, told_first, told_good, told_next, told_stopped}
 use Rattle.iss_follow_catch.proofs.ahead.read_beside.Goals as goal
 
 pub returns-in_err-met-clause-moments : goal.returns-in_err-met-clause-moments
 returns-in_err-met-clause-moments g c =
     (told_begun c.in_ok-reading.reading (g.E.Edge.told c.args.edge.now) (g.E.Edge.told c.start.new.edge) c.in_ok-reading.ensures.begins).1
+
+pub returns-in_err-met-clause-refused : goal.returns-in_err-met-clause-refused
+returns-in_err-met-clause-refused g c =
+    let failed : c.from_residual-in_err-met.result ≡ Err OutOfMemory = search rules in
+    rw failed (told_begun_alone c.in_ok-reading.reading (g.E.Edge.told c.args.edge.now) (g.E.Edge.told c.start.new.edge) c.in_ok-reading.ensures.begins)
 
 pub reading-init : goal.reading-init
 reading-init g c =
@@ -34,6 +41,22 @@ pub returns-in_err-next-clause-moments : goal.returns-in_err-next-clause-moments
 returns-in_err-next-clause-moments g c =
     told_good c.reading.reading c.args.other.now c.reading.met c.reading.later.items (g.E.Edge.told c.args.edge.now) (g.E.Edge.told c.reading.edge) c.reading.invariant.read
     (g.E.Edge.told c.next.new.edge) c.next.ensures.same
+
+pub returns-in_err-next-clause-refused : goal.returns-in_err-next-clause-refused
+returns-in_err-next-clause-refused g c =
+    let failed : c.from_residual-in_err-next.result ≡ Err c.in_err-next.field-0.0 = search rules in
+    rw failed (
+    told_alone c.reading.reading c.args.other.now c.reading.met c.reading.later.items (g.E.Edge.told c.args.edge.now) (g.E.Edge.told c.reading.edge) c.reading.invariant.read
+    StoreNow c.in_err-next.field-0.0 (g.E.Edge.told c.next.new.edge) c.next.ensures.same
+    )
+
+pub returns-in_err-met-2-clause-refused : goal.returns-in_err-met-2-clause-refused
+returns-in_err-met-2-clause-refused g c =
+    let failed : c.from_residual-in_err-met-2.result ≡ Err OutOfMemory = search rules in
+    rw failed (
+    told_alone c.reading.reading c.args.other.now c.reading.met c.reading.later.items (g.E.Edge.told c.args.edge.now) (g.E.Edge.told c.reading.edge) c.reading.invariant.read
+    StoreNow OutOfMemory (g.E.Edge.told c.next.new.edge) c.next.ensures.same
+    )
 
 pub returns-in_default-clause-moments : goal.returns-in_default-clause-moments
 returns-in_default-clause-moments g c =

@@ -3,8 +3,9 @@ use Rattle.iss_edge.specs.World.{Told}
 use Rattle.iss_edge.proofs.Tolds.{later_self, later_then, told_self}
 use Rattle.iss_halves.specs.Forms.{Form}
 use Rattle.iss_model.specs.declared.input.Record.{Record}
+use Rattle.iss_opening.specs.Values.{StoreNow}
 use Rattle.iss_follow_catch.specs.Committing.{Lasts, TakesUp}
-use Rattle.iss_follow_catch.proofs.Commits.{all_taken, cut_next, lasts_none, takes_more, takes_none, taken_next, told_more, told_part, told_stopped, told_whole, told_whole_part, unplanned_so}
+use Rattle.iss_follow_catch.proofs.Commits.{all_taken, cut_next, lasts_none, takes_more, takes_none, taken_next, told_left, told_more, told_part, told_some_all, told_stopped, told_whole, told_whole_part, unplanned_so}
 use Rattle.iss_follow_catch.proofs.committing.commit_all.Goals as goal
 
 pub records-init : goal.records-init
@@ -36,6 +37,16 @@ returns-in_err-store-clause-part g c =
     told_part c.args.opened c.records.store (take i rs) rs (drop (i + 1) rs) c.record-item.result (g.T.Edge.told c.args.to.now) (g.T.Edge.told c.records.to) (g.T.Edge.told c.commit_one.new.to)
     (cut_next rs i c.record-item.result within c.record-item.is) c.records.invariant.takes c.records.invariant.lasts c.commit_one.ensures.part
 
+pub returns-in_err-store-clause-left : goal.returns-in_err-store-clause-left
+returns-in_err-store-clause-left g c =
+    let i = c.records.record-index in
+    let rs = c.args.records.now in
+    let failed : c.from_residual.result ≡ Err c.in_err-store.field-0.0 = search rules in
+    rw failed (
+    told_left c.args.opened c.records.store (take i rs) (g.T.Edge.told c.args.to.now) (g.T.Edge.told c.records.to) (g.T.Edge.told c.commit_one.new.to)
+    c.records.invariant.takes c.records.invariant.lasts StoreNow (Unit {0}) c.in_err-store.field-0.0 c.in_err-store.ensures.left
+    )
+
 pub records-preserved : goal.records-preserved
 records-preserved g c =
     let i = c.records.record-index in
@@ -63,3 +74,8 @@ pub returns-clause-part : goal.returns-clause-part
 returns-clause-part g c =
     told_whole_part c.args.opened c.records.store (take c.records.record-index c.args.records.now) c.args.records.now (g.T.Edge.told c.args.to.now) (g.T.Edge.told c.records.to)
     (all_taken c.args.records.now c.records.record-index (omega (arith, c.records-test.false))) c.records.invariant.takes c.records.invariant.lasts
+
+pub returns-clause-left : goal.returns-clause-left
+returns-clause-left g c =
+    told_some_all c.args.opened c.records.store (take c.records.record-index c.args.records.now) (g.T.Edge.told c.args.to.now) (g.T.Edge.told c.records.to) (g.T.Edge.told c.records.to)
+    c.records.invariant.takes c.records.invariant.lasts

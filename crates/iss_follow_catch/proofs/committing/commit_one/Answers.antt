@@ -5,8 +5,8 @@ use Rattle.iss_model.specs.declared.input.Record.{Record}
 use Rattle.iss_opening.specs.Values.{StoreNow}
 use Rattle.iss_opening.specs.Standing.{StandsFor}
 use Rattle.iss_store.specs.Committing.{Commits, CommitsOnBook, Keeps, KeepsPart}
-use Rattle.iss_follow_catch.specs.Committing.{Lasts, LastsInPart}
-use Rattle.iss_follow_catch.proofs.Commits.{alone_caused, lasts_one, part_none, part_one, takes_one}
+use Rattle.iss_follow_catch.specs.Committing.{Lasts, LastsInPart, LastsSome}
+use Rattle.iss_follow_catch.proofs.Commits.{alone_caused, lasts_one, left_so, part_none, part_one, some_keeps, some_none, takes_one}
 use Rattle.iss_follow_catch.proofs.committing.commit_one.Goals as goal
 
 pub returns-in_err-planned-clause-part : goal.returns-in_err-planned-clause-part
@@ -17,6 +17,26 @@ pub returns-in_err-planned-clause-cause : goal.returns-in_err-planned-clause-cau
 returns-in_err-planned-clause-cause g c =
     let failed : c.from_residual.result ≡ Err c.in_err-planned.field-0.0 = search rules in
     rw failed (alone_caused (g.T.Edge.faults c.args.to.now) c.in_err-planned.field-0.0 c.in_err-planned.ensures.alone)
+
+pub returns-in_err-planned-clause-left : goal.returns-in_err-planned-clause-left
+returns-in_err-planned-clause-left g c =
+    let failed : c.from_residual.result ≡ Err c.in_err-planned.field-0.0 = search rules in
+    rw failed (
+    left_so StoreNow c.in_err-planned.field-0.0 (Told (LastsSome c.args.store) (g.T.Edge.told c.args.to.now) (g.T.Edge.told c.args.to.now))
+    (told_self (LastsSome c.args.store) (g.T.Edge.told c.args.to.now) (some_none c.args.store))
+    )
+
+pub returns-in-Ok-clause-left : goal.returns-in-Ok-clause-left
+returns-in-Ok-clause-left g c =
+    let lasts : Told (Keeps c.args.store c.in_ok-planned.planned.accepted) (g.T.Edge.told c.args.to.now) (g.T.Edge.told c.commit.new.edge) = search rules in
+    told_map (Keeps c.args.store c.in_ok-planned.planned.accepted) (LastsSome c.args.store) (g.T.Edge.told c.args.to.now) (g.T.Edge.told c.commit.new.edge)
+    (some_keeps c.args.store c.in_ok-planned.planned.accepted) lasts
+
+pub returns-in-Err-OutOfMemory-clause-left : goal.returns-in-Err-OutOfMemory-clause-left
+returns-in-Err-OutOfMemory-clause-left g c =
+    let lasts : Told (Keeps c.args.store c.in_ok-planned.planned.accepted) (g.T.Edge.told c.args.to.now) (g.T.Edge.told c.commit.new.edge) = search rules in
+    told_map (Keeps c.args.store c.in_ok-planned.planned.accepted) (LastsSome c.args.store) (g.T.Edge.told c.args.to.now) (g.T.Edge.told c.commit.new.edge)
+    (some_keeps c.args.store c.in_ok-planned.planned.accepted) lasts
 
 pub returns-in-Ok-clause-takes : goal.returns-in-Ok-clause-takes
 returns-in-Ok-clause-takes g c =

@@ -13,7 +13,7 @@ returns-in_err-first g c =
     rw failed (
     same_first_unopened c.in_err-first.field-0.0 (g.F.Edge.faults c.args.from.now) (g.F.Edge.faults c.open.new.edge) (g.T.Edge.faults c.args.to.now)
     (g.F.Edge.told c.args.from.now) (g.F.Edge.told c.open.new.edge) (g.T.Edge.told c.args.to.now)
-    c.in_err-first.ensures.opens c.in_err-first.ensures.moments c.in_err-first.ensures.cause
+    c.in_err-first.ensures.opens c.in_err-first.ensures.moments c.in_err-first.ensures.refused c.in_err-first.ensures.cause
     )
 
 pub returns-in_err-second : goal.returns-in_err-second
@@ -22,7 +22,7 @@ returns-in_err-second g c =
     rw failed (
     same_second_unopened c.in_ok-first.first (g.F.Edge.faults c.args.from.now) (g.F.Edge.faults c.open.new.edge) (g.F.Edge.told c.args.from.now) (g.F.Edge.told c.open.new.edge) c.in_ok-first.ensures.opened
     c.in_err-second.field-0.0 (g.T.Edge.faults c.args.to.now) (g.T.Edge.faults c.open-2.new.edge) (g.T.Edge.told c.args.to.now) (g.T.Edge.told c.open-2.new.edge)
-    c.in_ok-first.ensures.cause.later c.in_err-second.ensures.opens c.in_err-second.ensures.moments c.in_err-second.ensures.cause
+    c.in_ok-first.ensures.cause.later c.in_err-second.ensures.opens c.in_err-second.ensures.moments c.in_err-second.ensures.refused c.in_err-second.ensures.cause
     )
 
 pub returns-in_err-same : goal.returns-in_err-same
@@ -54,7 +54,9 @@ returns-in-Ok g c =
 
 pub returns : goal.returns
 returns g c =
+    let exactly : (c.in_ok-same.same ≡ true) ↔ AreSame c.in_ok-first.first.core c.in_ok-second.second.core = search rules in
+    let is : c.as_slice.result.now ≡ same_line c.in_ok-first.first.core.state.count c.in_ok-same.same = search rules in
     same_unsent c.in_ok-first.first (g.F.Edge.faults c.args.from.now) (g.F.Edge.faults c.open.new.edge) (g.F.Edge.told c.args.from.now) (g.F.Edge.told c.open.new.edge) c.in_ok-first.ensures.opened
     c.in_ok-second.second (g.T.Edge.faults c.args.to.now) (g.T.Edge.faults c.open-2.new.edge) (g.T.Edge.told c.args.to.now) (g.T.Edge.told c.open-2.new.edge) c.in_ok-second.ensures.opened
     (record { 0 = 0 }) c.as_slice.result.now (g.F.Edge.faults c.emit.new.self) (g.F.Edge.told c.emit.new.self)
-    c.in_ok-first.ensures.cause.later c.in_ok-second.ensures.cause.later c.emit.ensures.cause.later (rw c.in-Err.is at c.emit.ensures.cause.failed) (rw c.in-Err.is at c.emit.ensures.part)
+    c.in_ok-same.same exactly refl is c.in_ok-first.ensures.cause.later c.in_ok-second.ensures.cause.later c.emit.ensures.cause.later (rw c.in-Err.is at c.emit.ensures.cause.failed) (rw c.in-Err.is at c.emit.ensures.part)
