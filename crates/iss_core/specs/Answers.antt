@@ -6,8 +6,8 @@ use Rattle.iss_model.specs.declared.txn.Txn.{Txn}
 use Rattle.iss_model.specs.declared.decision.Reason.{Reason}
 use Rattle.iss_model.specs.declared.entry.Entry.{Entry}
 use Rattle.iss_model.specs.rules.Activity.{CallNow, is_asked}
-use Rattle.iss_model.specs.rules.Facts.{Facts, txn_in}
-use Rattle.iss_model.specs.rules.Pieces.{abandoned_call_entries}
+use Rattle.iss_model.specs.rules.Facts.{Facts, asked_calls_of, txn_in}
+use Rattle.iss_model.specs.rules.Pieces.{abandoned_call_entries, abandoned_calls_entries}
 
 -- a call that is asked, with its transaction
 abbrev pub asked_with : Option CallNow → Facts → Option (Opened × Txn)
@@ -23,3 +23,7 @@ entries_with make (Some x) = make x.0 x.1
 abbrev pub abandoned_entries : ℕ → Txn → Reason → List Opened → List Entry
 abandoned_entries number t why [] = []
 abandoned_entries number t why (o ∷ os) = abandoned_call_entries number t why o ++ abandoned_entries (number + 1) t why os
+
+-- the asked calls of a transaction are abandoned, with notices from this number on
+abbrev pub abandonment_entries : ℕ → Facts → Txn → Reason → List Entry
+abandonment_entries number f t why = abandoned_calls_entries number t why (asked_calls_of f t.token)

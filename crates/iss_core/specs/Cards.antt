@@ -6,9 +6,9 @@ use Rattle.iss_model.specs.declared.setting.Card.{Card}
 use Rattle.iss_model.specs.declared.setting.Product.{Product}
 use Rattle.iss_model.specs.declared.decision.Reason.{Reason}
 use Rattle.iss_model.specs.declared.decision.Reason.TheVariants as reason
-use Rattle.iss_model.specs.rules.Settings.{product_named, is_active_user, is_active_card}
+use Rattle.iss_model.specs.rules.Settings.{card_named, product_named, is_active_user, is_active_card}
 use Rattle.iss_model.specs.rules.Activity.{TxnNow}
-use Rattle.iss_model.specs.rules.Facts.{Facts}
+use Rattle.iss_model.specs.rules.Facts.{Facts, txn_in}
 use Rattle.iss_model.specs.rules.Asks.{Ask, txn_begun, breach}
 use Rattle.iss_model.specs.rules.Reasons.{first_reason, is_some_with, user_is}
 use Rattle.iss_model.specs.rules.CardReasons.{is_in_currency, lacks_funds, control_breach, first_ask, further_ask, increment_reason, reversal_reason, clearing_reason, refund_reason}
@@ -52,6 +52,10 @@ purchase_acts f p known =
     let ask = card_ask f p known in
     acts_unless (purchase_reason f p.currency known ask) p.token (authorization_acts f ask)
 
+-- the acts of a purchase on the card that it names
+abbrev pub named_card_acts : Facts → Purchase → List Act
+named_card_acts f p = purchase_acts f p (card_named p.card f.cards)
+
 -- the acts of a transaction's first ask, which is declined by what it asks for, or begins the transaction
 abbrev pub first_ask_acts : Facts → Ask → List Act
 first_ask_acts f ask = acts_unless (ask_reason f ask) ask.event (authorization_acts f (Some ask))
@@ -74,6 +78,14 @@ clearing_on f o known = acts_unless (clearing_reason known o.currency) o.token (
 abbrev pub refund_on : Facts → Operation → Option TxnNow → List Act
 refund_on f o known = acts_unless (refund_reason f known o.currency o.amount) o.token (refund_acts f o.token o.amount known)
 
+-- the acts of what follows an authorisation, on the transaction that it names
+abbrev pub acts_on_txn : (Facts → Operation → Option TxnNow → List Act) → Facts → Operation → List Act
+acts_on_txn acts f o = acts f o (txn_in f o.txn)
+
+-- why an increment of a transaction with this hold is declined, as an ask
+abbrev pub further_ask_reason : Facts → Operation → Hold → Ask → Option Reason
+further_ask_reason f o hold ask = increment_reason f (Some (txn_of_hold hold)) o.currency (Some ask)
+
 -- the acts of a reversal that isn't declined, of a transaction with this hold
 abbrev pub reversed_on : Facts → Operation → Hold → List Act
 reversed_on f o hold = reversed_acts f o.token o.amount hold.txn (parts_of_hold hold)
@@ -86,6 +98,10 @@ cleared_on f o hold = cleared_acts f o.token o.amount o.last o.at (txn_of_hold h
 abbrev pub captured_on : Facts → Hold → ℕ → Bool → List Act
 captured_on f rest amount last =
     after_clearing_acts f rest.txn (parts_of_hold rest) amount (rest.live && (last || in_all (parts_of_hold rest) == 0))
+
+-- the acts of a refund that isn't declined, of a transaction with this hold
+abbrev pub refunded_on : Facts → Operation → Hold → List Act
+refunded_on f o hold = refund_acts f o.token o.amount (Some (txn_of_hold hold))
 
 -- a hold has what its transaction holds, and that is small
 pub record IsHeld (s : CoreState) (hold : Hold) : Type 0 where

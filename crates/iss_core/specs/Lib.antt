@@ -1,6 +1,7 @@
 pub mod Values
 pub mod States
 pub mod Asks
+pub mod Adding
 pub mod Standing
 pub mod Reasons
 pub mod Cards

@@ -4,10 +4,11 @@ use Rattle.iss_model.specs.declared.currency.Currency.{Currency}
 use Rattle.iss_model.specs.declared.currency.Currency.TheVariants.{Usd}
 use Rattle.iss_model.specs.declared.setting.Window.TheVariants.{Day}
 use Rattle.iss_model.specs.declared.setting.Association.{Association}
+use Rattle.iss_model.specs.declared.setting.Control.{Control}
 use Rattle.iss_model.specs.declared.setting.Scope.{Scope}
 use Rattle.iss_model.specs.declared.decision.Reason.{Reason}
 use Rattle.iss_model.specs.rules.Facts.{Facts}
-use Rattle.iss_model.specs.rules.Reasons.{put_control_reason, put_set_reason}
+use Rattle.iss_model.specs.rules.Reasons.{control_reason, put_control_reason, put_set_reason}
 
 -- a new control's currency, window and offset are never a reason
 abbrev pub new_control_reason : Facts → Association → Scope → Option Reason
@@ -16,3 +17,7 @@ new_control_reason f association scope = put_control_reason None f Usd Day assoc
 -- a new set is of a known product, in its currency, and fits in
 abbrev pub new_set_reason : Facts → List ℕ → Currency → Option Reason
 new_set_reason f product currency = put_set_reason None f product currency
+
+-- why a control is declined
+abbrev pub reason_of_control : Facts → Control → Option Reason
+reason_of_control f c = control_reason f c.name c.currency c.window c.association c.scope c.offset

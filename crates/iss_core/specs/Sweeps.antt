@@ -1,17 +1,22 @@
 -- How what is due is settled, one thing after the other.
-use Rattle.std.specs.Prelude.{◌≡◌, ℕ, nat_le, false, List, [], ◌∷◌, map, fold, Option, Some, None, if◌then◌else◌}
+use Rattle.std.specs.Prelude.{◌≡◌, ℕ, nat_le, false, List, [], ◌∷◌, map, fold, Option, Some, None, if◌then◌else◌, Vec}
+use Rattle.std.specs.Global.{Global}
 use Rattle.std.specs.List.{AllByRecursion}
 use Rattle.iss_model.specs.declared.call.CallId.{CallId}
+use Rattle.iss_model.specs.declared.input.Record.{Record}
 use Rattle.iss_model.specs.declared.entry.Entry.{Entry}
 use Rattle.iss_model.specs.rules.Activity.{TxnNow, CallNow, txn_named, call_numbered}
 use Rattle.iss_model.specs.rules.Due.{DueItem, DueThing, call_due, txn_due, is_before, items_with, thing_entries}
 use Rattle.iss_model.specs.rules.Facts.{Facts}
 use Rattle.iss_model.specs.rules.Keeper.{Growth, grow}
-use Rattle.iss_model.specs.state.Cores.{CoreState, core_keeper}
+use Rattle.iss_model.specs.rules.Stepping.{own_entries}
+use Rattle.iss_model.specs.state.Cores.{CoreState, after_entry, core_facts, core_keeper}
 use Rattle.iss_state.specs.Numbers.{CallsNumberedFrom}
 use Rattle.iss_state.specs.Well.{HaveOwnTokens}
+use Rattle.iss_core.specs.States.{kept_state}
 use Rattle.iss_core.specs.declared.due.Due.{Due}
 use Rattle.iss_core.specs.declared.due.Due.TheVariants.{Call, Txn}
+use Rattle.iss_core.specs.declared.state.State.{State}
 
 -- a due thing as the rules speak of it
 abbrev pub thing_of : Due → DueThing
@@ -22,9 +27,21 @@ thing_of (Txn token) = txn_due token
 abbrev pub grown : CoreState → List Entry → Growth CoreState
 grown s entries = record { world = s; entries = entries }
 
+-- the state that the parts keep, grown to by the entries of a list
+abbrev pub growth_of : State → Vec Entry Global → Growth CoreState
+growth_of p made = grown (kept_state p) made.items
+
 -- a due thing is settled at a moment
 abbrev pub settle_thing : ℕ → Growth CoreState → DueThing → Growth CoreState
 settle_thing at g thing = grow core_keeper g (thing_entries thing at)
+
+-- a due thing of the code is settled at a moment
+abbrev pub settle_one : ℕ → Growth CoreState → Due → Growth CoreState
+settle_one at g due = settle_thing at g (thing_of due)
+
+-- a record's own entries are entered
+abbrev pub with_own_entries : CoreState → Record → CoreState
+with_own_entries s r = fold after_entry s (own_entries r (core_facts s))
 
 -- what comes of settling these things, when these entries were made
 abbrev pub settled_from : ℕ → CoreState → List Entry → List DueThing → Growth CoreState

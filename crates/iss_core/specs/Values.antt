@@ -1,5 +1,6 @@
 -- What a core is, and what it tells of a list of records.
 use Rattle.std.specs.Prelude.{◌≡◌, ℕ, List, [], ◌∷◌, ◌++◌, IsTrue}
+use Rattle.iss_model.specs.declared.input.Input.{Input}
 use Rattle.iss_model.specs.declared.input.Record.{Record}
 use Rattle.iss_model.specs.declared.entry.Entry.{Entry}
 use Rattle.iss_model.specs.declared.decision.Judged.{Judged}
@@ -35,6 +36,10 @@ abbrev pub GivesInForm : Judged → Type 0
 GivesInForm (judged.New r) = IsTrue (is_in_form r.input) × IsTrue (is_stamp r.at)
 GivesInForm (judged.Clock r) = IsTrue (is_in_form r.input) × IsTrue (is_stamp r.at)
 GivesInForm (judged.Told a) = Unit {0}
+
+-- what judging an input tells, on the book of these records
+abbrev pub judged_on : List Record → Input → ℕ → Judged
+judged_on rs i at = judge history_keeper (history_of rs) i at
 
 -- a record was taken up: these are its entries, and what stands after them
 pub record Steps (before after : CoreNow) (r : Record) (made : List Entry) : Type 0 where

@@ -1,16 +1,16 @@
 //! The entries of the gateway's answers, and of calls and transactions that end.
-ghost use Rattle.std.specs.Prelude.{◌≡◌, ◌+◌, ◌<◌, ◌^◌, ◌++◌, true, nat_lt, length, IfSome, IfOk, OnOk, IsTrue};
+ghost use Rattle.std.specs.Prelude.{◌≡◌, ◌+◌, ◌<◌, ◌^◌, true, nat_lt, length, IfSome, IfOk, OnOk, IsTrue};
 ghost use Rattle.std.specs.List.{list_all};
 ghost use Rattle.iss_model.specs.Forms.{is_stamp};
-ghost use Rattle.iss_model.specs.rules.Facts.{asked_calls_of, call_in, next_notice};
-ghost use Rattle.iss_model.specs.rules.Acts.{entries_of_acts};
+ghost use Rattle.iss_model.specs.rules.Facts.{call_in, next_notice};
 ghost use Rattle.iss_model.specs.rules.CardActs.{answer_acts, counts_as_part, failed_acts, outcome_acts};
 ghost use Rattle.iss_model.specs.rules.Due.{expiry_acts};
-ghost use Rattle.iss_model.specs.rules.Pieces.{abandoned_calls_entries, notice_after_abandonment};
+ghost use Rattle.iss_model.specs.rules.Pieces.{notice_after_abandonment};
 ghost use Rattle.iss_core.specs.States.{facts_of, kept_state};
 ghost use Rattle.iss_core.specs.Cards.{IsHeld};
 ghost use Rattle.iss_core.specs.Order.{IsInOrder};
-ghost use Rattle.iss_core.specs.Answers.{asked_with, abandoned_entries};
+ghost use Rattle.iss_core.specs.Answers.{asked_with, abandoned_entries, abandonment_entries};
+ghost use Rattle.iss_core.specs.Adding.{Adds, AddsActs};
 
 use crate::asks::Ask;
 use crate::pieces::{
@@ -33,7 +33,7 @@ impl State {
     ) -> Result<(), AllocError>
         requires order { IsInOrder (kept_state self.now) }
         requires stamp { IsTrue (is_stamp at) }
-        ensures { OnOk result (out.new.items ≡ out.old.items ++ entries_of_acts (answer_acts call outcome at (facts_of self.now))) }
+        ensures { OnOk result (AddsActs out.old out.new (answer_acts call outcome at (facts_of self.now))) }
     {
         match self.asked(call) {
             None => Ok(()),
@@ -66,7 +66,7 @@ impl State {
         requires order { IsInOrder (kept_state self.now) }
         requires amount { opened.now.amount < 2 ^ 62 }
         requires stamp { IsTrue (is_stamp at) }
-        ensures { OnOk result (out.new.items ≡ out.old.items ++ entries_of_acts (outcome_acts outcome (facts_of self.now) opened.now txn.now at)) }
+        ensures { OnOk result (AddsActs out.old out.new (outcome_acts outcome (facts_of self.now) opened.now txn.now at)) }
     {
         match outcome {
             Outcome::Funded => {
@@ -100,7 +100,7 @@ impl State {
         requires order { IsInOrder (kept_state self.now) }
         requires amount { opened.now.amount < 2 ^ 62 }
         requires stamp { IsTrue (is_stamp at) }
-        ensures { OnOk result (out.new.items ≡ out.old.items ++ entries_of_acts (failed_acts (facts_of self.now) opened.now txn.now failure at)) }
+        ensures { OnOk result (AddsActs out.old out.new (failed_acts (facts_of self.now) opened.now txn.now failure at)) }
     {
         let number = self.next_notice();
         out.push(Entry::Closed(opened.call, How::Failed(failure)))?;
@@ -117,7 +117,7 @@ impl State {
     ) -> Result<(), AllocError>
         requires order { IsInOrder (kept_state self.now) }
         requires held { IsHeld (kept_state self.now) hold.now }
-        ensures { OnOk result (out.new.items ≡ out.old.items ++ entries_of_acts (expiry_acts (facts_of self.now) hold.now.txn)) }
+        ensures { OnOk result (AddsActs out.old out.new (expiry_acts (facts_of self.now) hold.now.txn)) }
     {
         let txn = &hold.txn;
         let number = self.put_abandonment(alloc, out, self.next_notice(), txn, &Reason::Expired)?;
@@ -136,7 +136,7 @@ impl State {
     ) -> Result<u32, AllocError>
         requires order { IsInOrder (kept_state self.now) }
         requires next { number ≡ next_notice (facts_of self.now) }
-        ensures entries { OnOk result (out.new.items ≡ out.old.items ++ abandoned_calls_entries number txn.now why.now (asked_calls_of (facts_of self.now) txn.now.token)) }
+        ensures entries { OnOk result (Adds out.old out.new (abandonment_entries number (facts_of self.now) txn.now why.now)) }
         ensures next { IfOk result (λ n. n ≡ notice_after_abandonment number (facts_of self.now) txn.now) }
     {
         let asked = self.calls.asked_of(alloc, &txn.token)?;
@@ -162,7 +162,7 @@ fn abandon(
 ) -> Result<u32, AllocError>
     requires room { number + length asked.now < 2 ^ 32 }
     requires amounts { list_all (λ o. nat_lt o.amount (2 ^ 62)) asked.now ≡ true }
-    ensures entries { OnOk result (out.new.items ≡ out.old.items ++ abandoned_entries number txn.now why.now asked.now) }
+    ensures entries { OnOk result (Adds out.old out.new (abandoned_entries number txn.now why.now asked.now)) }
     ensures next { IfOk result (λ n. n ≡ number + length asked.now) }
 {
     let mut next = number;

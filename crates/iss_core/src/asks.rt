@@ -1,17 +1,17 @@
 //! Asks: what an authorisation or an increment wants, why it is declined by that, and how it is paid.
-ghost use Rattle.std.specs.Prelude.{◌≡◌, ◌+◌, ◌<◌, ◌≤◌, ◌^◌, ◌∷◌, [], ◌++◌, OnOk, IsTrue};
+ghost use Rattle.std.specs.Prelude.{◌≡◌, ◌+◌, ◌<◌, ◌≤◌, ◌^◌, ◌∷◌, [], OnOk, IsTrue};
 ghost use Rattle.iss_model.specs.declared.entry.Entry.TheVariants as entry;
 ghost use Rattle.iss_model.specs.Forms.{is_amount, is_stamp, is_timeout};
 ghost use Rattle.iss_model.specs.rules.Asks.{ask_usage, ask_given_back, call_ask, rest_given_back, usage_of, breach};
 ghost use Rattle.iss_model.specs.rules.CardReasons.{lacks_funds};
-ghost use Rattle.iss_model.specs.rules.Acts.{entries_of_acts};
-ghost use Rattle.iss_model.specs.rules.CardActs.{funding_acts, stand_acts};
-ghost use Rattle.iss_model.specs.rules.StandIns.{stand};
+ghost use Rattle.iss_model.specs.rules.CardActs.{funding_acts};
 ghost use Rattle.iss_model.specs.rules.Facts.{next_notice};
 ghost use Rattle.iss_model.specs.rules.Pieces.{ask_method, call_for};
 ghost use Rattle.iss_core.specs.States.{facts_of, kept_state};
 ghost use Rattle.iss_core.specs.Asks.{ask_of, ask_reason, unpaid_ask_acts, wanted_of};
 ghost use Rattle.iss_core.specs.Order.{IsInOrder};
+ghost use Rattle.iss_core.specs.Standing.{stand_in_acts};
+ghost use Rattle.iss_core.specs.Adding.{AddsActs};
 
 use crate::pieces::{failure_reason, put_decided, put_declined_ask, put_stood};
 use crate::state::State;
@@ -167,7 +167,7 @@ impl State {
         requires order { IsInOrder (kept_state self.now) }
         requires amount { IsTrue (is_amount ask.now.amount) }
         requires stamp { IsTrue (is_stamp ask.now.at) }
-        ensures { OnOk result (out.new.items ≡ out.old.items ++ entries_of_acts (funding_acts (facts_of self.now) (ask_of ask.now))) }
+        ensures { OnOk result (AddsActs out.old out.new (funding_acts (facts_of self.now) (ask_of ask.now))) }
     {
         match ask.txn.funding {
             Funding::Account => {
@@ -183,8 +183,7 @@ impl State {
         requires order { IsInOrder (kept_state self.now) }
         requires amount { IsTrue (is_amount ask.now.amount) }
         requires stamp { IsTrue (is_stamp ask.now.at) }
-        ensures { OnOk result (out.new.items ≡ out.old.items
-            ++ entries_of_acts (unpaid_ask_acts (facts_of self.now) (ask_of ask.now))) }
+        ensures { OnOk result (AddsActs out.old out.new (unpaid_ask_acts (facts_of self.now) (ask_of ask.now))) }
     {
         match self.product(&ask.txn.product) {
             None => Ok(()),
@@ -234,9 +233,7 @@ impl State {
     ) -> Result<(), AllocError>
         requires amount { ask.now.amount < 2 ^ 62 }
         requires stamp { IsTrue (is_stamp at) }
-        ensures { OnOk result (out.new.items ≡ out.old.items
-            ++ entries_of_acts
-            (stand_acts (stand (facts_of self.now) (ask_of ask.now) failure at) number (ask_of ask.now) failure at)) }
+        ensures { OnOk result (AddsActs out.old out.new (stand_in_acts number (facts_of self.now) (ask_of ask.now) failure at)) }
     {
         let txn = &ask.txn;
         match self

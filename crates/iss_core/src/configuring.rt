@@ -1,14 +1,15 @@
 //! Settings take effect. Each call on a part could refuse one for a reason that was asked before, so only an allocation can fail.
-ghost use Rattle.std.specs.Prelude.{◌≡◌, ◌∷◌, ◌++◌, [], None, OnOk};
-ghost use Rattle.iss_model.specs.state.Cores.{after_setting, with_user, with_card, with_user_moved, with_card_moved, with_product, with_control, with_set};
-ghost use Rattle.iss_model.specs.rules.Reasons.{user_reason, card_reason, move_reason, product_reason, group_reason, control_reason, set_reason};
+ghost use Rattle.std.specs.Prelude.{◌≡◌, None, OnOk};
+ghost use Rattle.iss_model.specs.state.Cores.{after_setting, with_user, with_card, with_user_moved, with_card_moved, with_product};
+ghost use Rattle.iss_model.specs.rules.Reasons.{user_reason, card_reason, move_reason, product_reason, group_reason, set_reason};
 ghost use Rattle.iss_model.specs.declared.setting.Moved.TheVariants as moved;
 ghost use Rattle.iss_state.specs.Needs.{setting_reason};
 ghost use Rattle.iss_card.specs.Standings.{card_fault_reason};
 ghost use Rattle.iss_velocity.specs.Puts.{control_fault_reason};
 ghost use Rattle.iss_scope.specs.Merchants.{group_fault_reason};
 ghost use Rattle.iss_core.specs.States.{facts_of, kept_state};
-ghost use Rattle.iss_core.specs.Settings.{product_fault_reason, set_fault_reason};
+ghost use Rattle.iss_core.specs.Reasons.{reason_of_control};
+ghost use Rattle.iss_core.specs.Settings.{product_fault_reason, set_fault_reason, with_control_put, with_group, with_set_put};
 
 use crate::state::State;
 use iss_card::CardFault;
@@ -169,7 +170,7 @@ impl State {
 
     fn put_group(&mut self, alloc: Global, group: &Token, mccs: &[u16]) -> Result<(), AllocError>
         requires { group_reason (facts_of self.old) group.now ≡ None }
-        ensures { OnOk result (self.new ≡ record self.old { groups = self.old.groups ++ record { name = group.now; mccs = mccs.now } ∷ [] }) }
+        ensures { OnOk result (self.new ≡ record self.old { groups = with_group self.old.groups group.now mccs.now }) }
     {
         match self.groups.add(alloc, group, mccs) {
             Ok(()) => Ok(()),
@@ -178,11 +179,8 @@ impl State {
     }
 
     fn put_control(&mut self, control: &Control) -> Result<(), AllocError>
-        requires { control_reason (facts_of self.old) control.now.name control.now.currency control.now.window
-            control.now.association control.now.scope control.now.offset ≡ None }
-        ensures { OnOk result (self.new ≡ record self.old {
-          controls = with_control self.old.controls (record { number = self.old.count; control = control.now });
-        }) }
+        requires { reason_of_control (facts_of self.old) control.now ≡ None }
+        ensures { OnOk result (self.new ≡ record self.old { controls = with_control_put self.old.controls self.old.count control.now }) }
     {
         match self.controls.put(self.count, control) {
             Ok(()) => Ok(()),
@@ -192,7 +190,7 @@ impl State {
 
     fn put_set(&mut self, set: &Set) -> Result<(), AllocError>
         requires { set_reason (facts_of self.old) set.now.name set.now.product set.now.currency ≡ None }
-        ensures { OnOk result (self.new ≡ record self.old { sets = record (self.old.sets) { sets = with_set self.old.sets.sets set.now } }) }
+        ensures { OnOk result (self.new ≡ record self.old { sets = with_set_put self.old.sets set.now }) }
     {
         match self.sets.put(set) {
             Ok(()) => Ok(()),

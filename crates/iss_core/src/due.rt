@@ -5,6 +5,7 @@ ghost use Rattle.iss_model.specs.rules.Activity.{txn_named, call_numbered};
 ghost use Rattle.iss_model.specs.rules.Due.{due_items, is_quiet, items_with, thing_entries};
 ghost use Rattle.iss_core.specs.States.{facts_of, kept_state};
 ghost use Rattle.iss_core.specs.Order.{IsInOrder};
+ghost use Rattle.iss_core.specs.Adding.{Adds};
 ghost use Rattle.iss_core.specs.Sweeps.{thing_of, HasOwnNames, AreOrdered, merged_things, txn_items, deadline_of, expiry_of, calls_until, calls_after};
 ghost use Rattle.iss_core.specs.declared.due.Due.TheVariants.{Call};
 
@@ -105,7 +106,7 @@ impl State {
     ) -> Result<(), AllocError>
         requires order { IsInOrder (kept_state self.now) }
         requires stamp { IsTrue (is_stamp at) }
-        ensures { OnOk result (out.new.items ≡ out.old.items ++ thing_entries (thing_of thing.now) at (facts_of self.now)) }
+        ensures { OnOk result (Adds out.old out.new (thing_entries (thing_of thing.now) at (facts_of self.now))) }
     {
         match thing {
             Due::Call(call) => match self.asked(*call) {

@@ -4,9 +4,8 @@ ghost use Rattle.iss_model.specs.declared.limits.TheConstants.{INSTANCES, MOST_R
 ghost use Rattle.iss_model.specs.declared.input.Record.{Record};
 ghost use Rattle.iss_model.specs.Forms.{is_in_form, is_stamp};
 ghost use Rattle.iss_model.specs.rules.Judging.{judge};
-ghost use Rattle.iss_model.specs.rules.Histories.{history_keeper, history_of};
 ghost use Rattle.iss_model.specs.state.Cores.{no_core, core_keeper};
-ghost use Rattle.iss_core.specs.Values.{CoreStandsFor, IsNext, GivesNext, GivesInForm, Steps, StepsOnBook};
+ghost use Rattle.iss_core.specs.Values.{CoreStandsFor, IsNext, GivesNext, GivesInForm, Steps, StepsOnBook, judged_on};
 
 use crate::state::State;
 use iss_model::{Entry, Input, Judged, Record};
@@ -67,7 +66,7 @@ impl Core {
         ensures next { IfOk result (GivesNext self.now) }
         ensures in_form { IfOk result GivesInForm }
         ensures on_book { (rs : List Record) → CoreStandsFor self.now rs
-            → IfOk result (λ j. j ≡ judge history_keeper (history_of rs) input.now at) }
+            → IfOk result (λ j. j ≡ judged_on rs input.now at) }
     {
         self.state.judge(alloc, input, at.max(self.state.time))
     }

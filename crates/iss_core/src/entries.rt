@@ -1,10 +1,10 @@
 //! The entries of each kind of input.
-ghost use Rattle.std.specs.Prelude.{◌≡◌, ℕ, ◌++◌, true, OnOk, IsTrue};
+ghost use Rattle.std.specs.Prelude.{◌≡◌, ℕ, true, OnOk, IsTrue};
 ghost use Rattle.iss_model.specs.Forms.{is_in_form, is_stamp};
-ghost use Rattle.iss_model.specs.rules.Acts.{entries_of_acts};
-ghost use Rattle.iss_model.specs.rules.Stepping.{acknowledgement_acts, entries_of};
+ghost use Rattle.iss_model.specs.rules.Stepping.{acknowledgement_acts, entries_of, own_entries};
 ghost use Rattle.iss_core.specs.States.{facts_of, kept_state};
 ghost use Rattle.iss_core.specs.Order.{IsInOrder};
+ghost use Rattle.iss_core.specs.Adding.{Adds, AddsActs};
 ghost use Rattle.iss_core.specs.Settings.{is_setting};
 
 use crate::operations::Operation;
@@ -25,7 +25,7 @@ impl State {
         requires order { IsInOrder (kept_state self.now) }
         requires input_form { IsTrue (is_in_form accepted.now.input) }
         requires stamp { IsTrue (is_stamp accepted.now.at) }
-        ensures { OnOk result (out.new.items ≡ out.old.items ++ entries_of accepted.now.input accepted.now.at (facts_of self.now)) }
+        ensures { OnOk result (Adds out.old out.new (own_entries accepted.now (facts_of self.now))) }
     {
         match &accepted.input {
             Input::Load {
@@ -137,7 +137,7 @@ impl State {
     /// The entries of a setting.
     fn put_own_setting(&self, out: &mut Vec<Entry>, input: &Input) -> Result<(), AllocError>
         requires { is_setting input.now ≡ true }
-        ensures { (at : ℕ) → OnOk result (out.new.items ≡ out.old.items ++ entries_of input.now at (facts_of self.now)) }
+        ensures { (at : ℕ) → OnOk result (Adds out.old out.new (entries_of input.now at (facts_of self.now))) }
     {
         match input {
             Input::User { token, user } => {
@@ -190,7 +190,7 @@ impl State {
     /// A notice is acknowledged; a notice that was never made isn't.
     #[inline(never)]
     fn put_acknowledgement(&self, out: &mut Vec<Entry>, notice: u32) -> Result<(), AllocError>
-        ensures { OnOk result (out.new.items ≡ out.old.items ++ entries_of_acts (acknowledgement_acts (facts_of self.now) notice)) }
+        ensures { OnOk result (AddsActs out.old out.new (acknowledgement_acts (facts_of self.now) notice)) }
     {
         if notice == 0 || notice > self.notices.made() {
             return Ok(());

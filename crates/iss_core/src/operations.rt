@@ -1,5 +1,5 @@
 //! The entries of what follows an authorisation: increments, reversals, clearings and refunds.
-ghost use Rattle.std.specs.Prelude.{◌≡◌, ◌<◌, ◌^◌, ◌++◌, Some, IfOk, OnOk, IsTrue};
+ghost use Rattle.std.specs.Prelude.{◌≡◌, ◌<◌, ◌^◌, Some, IfOk, OnOk, IsTrue};
 ghost use Rattle.iss_model.specs.Forms.{is_amount, is_stamp};
 ghost use Rattle.iss_model.specs.rules.Facts.{txn_in};
 ghost use Rattle.std.specs.List.{list_any};
@@ -7,13 +7,12 @@ ghost use Rattle.iss_model.specs.rules.Settings.{card_named, is_active_card};
 ghost use Rattle.iss_model.specs.rules.Asks.{is_authorization};
 ghost use Rattle.iss_model.specs.rules.Reasons.{is_some_with};
 ghost use Rattle.iss_model.specs.rules.CardReasons.{further_ask, increment_reason, is_pending, reversal_reason, clearing_reason};
-ghost use Rattle.iss_model.specs.rules.Acts.{entries_of_acts};
-ghost use Rattle.iss_model.specs.rules.CardActs.{refund_acts};
 ghost use Rattle.iss_hold.specs.Holdings.{txn_of_hold, parts_of_hold, whole_of};
 ghost use Rattle.iss_core.specs.States.{facts_of, kept_state};
 ghost use Rattle.iss_core.specs.Asks.{ask_of};
-ghost use Rattle.iss_core.specs.Cards.{increment_on, reversal_on, reversed_on, clearing_on, cleared_on, captured_on, refund_on};
+ghost use Rattle.iss_core.specs.Cards.{increment_on, reversal_on, reversed_on, clearing_on, cleared_on, captured_on, refund_on, refunded_on, acts_on_txn, further_ask_reason};
 ghost use Rattle.iss_core.specs.Order.{IsInOrder};
+ghost use Rattle.iss_core.specs.Adding.{AddsActs};
 
 use crate::asks::Ask;
 use crate::looking::is_active_card;
@@ -66,8 +65,7 @@ impl State {
         requires order { IsInOrder (kept_state self.now) }
         requires amount { IsTrue (is_amount operation.now.amount) }
         requires stamp { IsTrue (is_stamp operation.now.at) }
-        ensures { OnOk result (out.new.items ≡ out.old.items
-            ++ entries_of_acts (increment_on (facts_of self.now) operation.now (txn_in (facts_of self.now) operation.now.txn))) }
+        ensures { OnOk result (AddsActs out.old out.new (acts_on_txn increment_on (facts_of self.now) operation.now)) }
     {
         match self.hold(&operation.txn) {
             None => put_declined(out, &operation.token, Reason::TxnUnknown),
@@ -86,8 +84,7 @@ impl State {
         requires order { IsInOrder (kept_state self.now) }
         requires amount { IsTrue (is_amount operation.now.amount) }
         requires stamp { IsTrue (is_stamp operation.now.at) }
-        ensures { OnOk result (out.new.items ≡ out.old.items
-            ++ entries_of_acts (increment_on (facts_of self.now) operation.now (Some (txn_of_hold hold.now)))) }
+        ensures { OnOk result (AddsActs out.old out.new (increment_on (facts_of self.now) operation.now (Some (txn_of_hold hold.now)))) }
     {
         let ask = operation.ask(&hold.txn);
         if let Some(why) = self.increment_reason(alloc, operation, hold, &ask)? {
@@ -106,7 +103,7 @@ impl State {
     ) -> Result<Option<Reason>, AllocError>
         requires amount { IsTrue (is_amount ask.now.amount) }
         requires stamp { IsTrue (is_stamp ask.now.at) }
-        ensures { IfOk result (λ why. why ≡ increment_reason (facts_of self.now) (Some (txn_of_hold hold.now)) operation.now.currency (Some (ask_of ask.now))) }
+        ensures { IfOk result (λ why. why ≡ further_ask_reason (facts_of self.now) operation.now hold.now (ask_of ask.now)) }
     {
         let txn = &hold.txn;
         if !hold.live {
@@ -153,8 +150,7 @@ impl State {
         operation: &Operation,
     ) -> Result<(), AllocError>
         requires order { IsInOrder (kept_state self.now) }
-        ensures { OnOk result (out.new.items ≡ out.old.items
-            ++ entries_of_acts (reversal_on (facts_of self.now) operation.now (txn_in (facts_of self.now) operation.now.txn))) }
+        ensures { OnOk result (AddsActs out.old out.new (acts_on_txn reversal_on (facts_of self.now) operation.now)) }
     {
         let Some(hold) = self.hold(&operation.txn) else {
             return put_declined(out, &operation.token, Reason::TxnUnknown);
@@ -174,8 +170,7 @@ impl State {
     ) -> Result<(), AllocError>
         requires order { IsInOrder (kept_state self.now) }
         requires small { whole_of hold.now < 2 ^ 62 }
-        ensures { OnOk result (out.new.items ≡ out.old.items
-            ++ entries_of_acts (reversed_on (facts_of self.now) operation.now hold.now)) }
+        ensures { OnOk result (AddsActs out.old out.new (reversed_on (facts_of self.now) operation.now hold.now)) }
     {
         let txn = &hold.txn;
         let number = self.put_abandonment(alloc, out, self.next_notice(), txn, &Reason::Reversed)?;
@@ -196,8 +191,7 @@ impl State {
     ) -> Result<(), AllocError>
         requires order { IsInOrder (kept_state self.now) }
         requires amount { IsTrue (is_amount operation.now.amount) }
-        ensures { OnOk result (out.new.items ≡ out.old.items
-            ++ entries_of_acts (clearing_on (facts_of self.now) operation.now (txn_in (facts_of self.now) operation.now.txn))) }
+        ensures { OnOk result (AddsActs out.old out.new (acts_on_txn clearing_on (facts_of self.now) operation.now)) }
     {
         let Some(hold) = self.hold(&operation.txn) else {
             return put_declined(out, &operation.token, Reason::TxnUnknown);
@@ -218,8 +212,7 @@ impl State {
         requires order { IsInOrder (kept_state self.now) }
         requires small { whole_of hold.now < 2 ^ 62 }
         requires amount { IsTrue (is_amount operation.now.amount) }
-        ensures { OnOk result (out.new.items ≡ out.old.items
-            ++ entries_of_acts (cleared_on (facts_of self.now) operation.now hold.now)) }
+        ensures { OnOk result (AddsActs out.old out.new (cleared_on (facts_of self.now) operation.now hold.now)) }
     {
         let amount = operation.amount;
         pieces::clear(out, hold, amount, operation.at)?;
@@ -239,8 +232,7 @@ impl State {
     ) -> Result<(), AllocError>
         requires order { IsInOrder (kept_state self.now) }
         requires small { whole_of rest.now < 2 ^ 62 }
-        ensures { OnOk result (out.new.items ≡ out.old.items
-            ++ entries_of_acts (captured_on (facts_of self.now) rest.now amount last)) }
+        ensures { OnOk result (AddsActs out.old out.new (captured_on (facts_of self.now) rest.now amount last)) }
     {
         let txn = &rest.txn;
         let number = self.next_notice();
@@ -260,8 +252,7 @@ impl State {
         operation: &Operation,
     ) -> Result<(), AllocError>
         requires order { IsInOrder (kept_state self.now) }
-        ensures { OnOk result (out.new.items ≡ out.old.items
-            ++ entries_of_acts (refund_on (facts_of self.now) operation.now (txn_in (facts_of self.now) operation.now.txn))) }
+        ensures { OnOk result (AddsActs out.old out.new (acts_on_txn refund_on (facts_of self.now) operation.now)) }
     {
         let Some(hold) = self.hold(&operation.txn) else {
             return put_declined(out, &operation.token, Reason::TxnUnknown);
@@ -283,8 +274,7 @@ impl State {
     ) -> Result<(), AllocError>
         requires order { IsInOrder (kept_state self.now) }
         requires known { txn_in (facts_of self.now) operation.now.txn ≡ Some (txn_of_hold hold.now) }
-        ensures { OnOk result (out.new.items ≡ out.old.items
-            ++ entries_of_acts (refund_acts (facts_of self.now) operation.now.token operation.now.amount (Some (txn_of_hold hold.now)))) }
+        ensures { OnOk result (AddsActs out.old out.new (refunded_on (facts_of self.now) operation.now hold.now)) }
     {
         let txn = &hold.txn;
         let amount = operation.amount;

@@ -1,12 +1,13 @@
 //! The pieces of entries that the core adds to those of transactions, each after those that are made already.
-ghost use Rattle.std.specs.Prelude.{◌≡◌, ◌<◌, ◌≤◌, ◌^◌, ◌∷◌, [], ◌++◌, Some, None, OnOk};
+ghost use Rattle.std.specs.Prelude.{◌≡◌, ◌<◌, ◌≤◌, ◌^◌, ◌∷◌, [], Some, None, OnOk};
 ghost use Rattle.iss_model.specs.declared.account.Account.TheVariants as account;
 ghost use Rattle.iss_model.specs.declared.account.Part.TheVariants as part;
 ghost use Rattle.iss_model.specs.declared.entry.Entry.TheVariants as entry;
-ghost use Rattle.iss_model.specs.rules.Pieces.{only_gateway, only_where, notice_entry, void_entry, abandoned_call_entries, declined_ask_entries, funded_ask_entries, part_funded_entries, failure_reason};
+ghost use Rattle.iss_model.specs.rules.Pieces.{only_gateway, notice_entry, void_entry, abandoned_call_entries, declined_ask_entries, funded_ask_entries, part_funded_entries, failure_reason};
 ghost use Rattle.iss_model.specs.rules.Acts.{Declines, act_entries};
 ghost use Rattle.iss_core.specs.Asks.{ask_of};
 ghost use Rattle.iss_core.specs.Standing.{stood_entries};
+ghost use Rattle.iss_core.specs.Adding.{Adds, plain_notice, notice_of_some};
 
 use crate::asks::{Ask, rest_given_back};
 use iss_chain::pieces;
@@ -20,7 +21,7 @@ pub(crate) fn put_decided(
     event: &Token,
     verdict: Verdict,
 ) -> Result<(), AllocError>
-    ensures { OnOk result (out.new.items ≡ out.old.items ++ entry.Decided event.now verdict ∷ []) }
+    ensures { OnOk result (Adds out.old out.new (entry.Decided event.now verdict ∷ [])) }
 {
     out.push(Entry::Decided(*event, verdict))?;
     Ok(())
@@ -31,7 +32,7 @@ pub(crate) fn put_declined(
     event: &Token,
     why: Reason,
 ) -> Result<(), AllocError>
-    ensures { OnOk result (out.new.items ≡ out.old.items ++ act_entries (Declines event.now why)) }
+    ensures { OnOk result (Adds out.old out.new (act_entries (Declines event.now why))) }
 {
     put_decided(out, event, Verdict::Declined(why))
 }
@@ -45,7 +46,7 @@ pub(crate) fn put_notice(
     amount: u64,
     gateway: u64,
 ) -> Result<(), AllocError>
-    ensures { OnOk result (out.new.items ≡ out.old.items ++ only_gateway txn.now (notice_entry number method txn.now None amount gateway ∷ [])) }
+    ensures { OnOk result (Adds out.old out.new (only_gateway txn.now (plain_notice number method txn.now amount gateway))) }
 {
     match txn.funding {
         Funding::Account => Ok(()),
@@ -65,8 +66,7 @@ pub(crate) fn put_notice_of_some(
     amount: u64,
     gateway: u64,
 ) -> Result<(), AllocError>
-    ensures { OnOk result (out.new.items
-        ≡ out.old.items ++ only_gateway txn.now (only_where amount (notice_entry number method txn.now None amount gateway ∷ []))) }
+    ensures { OnOk result (Adds out.old out.new (only_gateway txn.now (notice_of_some number method txn.now amount gateway))) }
 {
     if amount == 0 {
         return Ok(());
@@ -103,7 +103,7 @@ pub(crate) fn put_void(
     txn: &Txn,
     opened: &Opened,
 ) -> Result<(), AllocError>
-    ensures { OnOk result (out.new.items ≡ out.old.items ++ void_entry number txn.now opened.now ∷ []) }
+    ensures { OnOk result (Adds out.old out.new (void_entry number txn.now opened.now ∷ [])) }
 {
     out.push(notice(
         number,
@@ -125,7 +125,7 @@ pub(crate) fn put_abandoned(
     opened: &Opened,
 ) -> Result<(), AllocError>
     requires { opened.now.amount < 2 ^ 63 }
-    ensures { OnOk result (out.new.items ≡ out.old.items ++ abandoned_call_entries number txn.now why.now opened.now) }
+    ensures { OnOk result (Adds out.old out.new (abandoned_call_entries number txn.now why.now opened.now)) }
 {
     out.push(Entry::Closed(opened.call, How::Abandoned))?;
     put_void(out, number, txn, opened)?;
@@ -140,7 +140,7 @@ pub(crate) fn put_declined_ask(
     why: Reason,
 ) -> Result<(), AllocError>
     requires { ask.now.amount < 2 ^ 63 }
-    ensures { OnOk result (out.new.items ≡ out.old.items ++ declined_ask_entries (ask_of ask.now) why) }
+    ensures { OnOk result (Adds out.old out.new (declined_ask_entries (ask_of ask.now) why)) }
 {
     out.push(Entry::Usage(ask.given_back()))?;
     if ask.first {
@@ -152,8 +152,7 @@ pub(crate) fn put_declined_ask(
 /// The gateway's money is there and held, and the ask approved.
 pub(crate) fn put_funded_ask(out: &mut Vec<Entry>, ask: &Ask) -> Result<(), AllocError>
     requires { ask.now.amount < 2 ^ 63 }
-    ensures { OnOk result (out.new.items
-        ≡ out.old.items ++ funded_ask_entries (ask_of ask.now) (account.Gateway ask.now.txn.currency) part.G) }
+    ensures { OnOk result (Adds out.old out.new (funded_ask_entries (ask_of ask.now) (account.Gateway ask.now.txn.currency) part.G)) }
 {
     pieces::fund(out, &ask.txn, Part::G, ask.amount)?;
     put_decided(out, &ask.event, Verdict::Approved)
@@ -169,7 +168,7 @@ pub(crate) fn put_part_funded(
 ) -> Result<(), AllocError>
     requires part { amount ≤ opened.now.amount }
     requires small { opened.now.amount < 2 ^ 63 }
-    ensures { OnOk result (out.new.items ≡ out.old.items ++ part_funded_entries opened.now txn.now amount) }
+    ensures { OnOk result (Adds out.old out.new (part_funded_entries opened.now txn.now amount)) }
 {
     out.push(Entry::Usage(rest_given_back(opened, txn, amount)))?;
     pieces::fund(out, txn, Part::G, amount)?;
@@ -185,7 +184,7 @@ pub(crate) fn put_stood(
     set: &Token,
 ) -> Result<(), AllocError>
     requires { ask.now.amount < 2 ^ 63 }
-    ensures { OnOk result (out.new.items ≡ out.old.items ++ stood_entries number (ask_of ask.now) at set.now) }
+    ensures { OnOk result (Adds out.old out.new (stood_entries number (ask_of ask.now) at set.now)) }
 {
     let txn = &ask.txn;
     out.push(Entry::Stood {

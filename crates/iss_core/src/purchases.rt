@@ -1,12 +1,11 @@
 //! The entries of authorisations.
-ghost use Rattle.std.specs.Prelude.{◌≡◌, ◌<◌, ◌^◌, ◌++◌, Some, OnOk, IsTrue};
+ghost use Rattle.std.specs.Prelude.{◌≡◌, ◌<◌, ◌^◌, Some, OnOk, IsTrue};
 ghost use Rattle.iss_model.specs.Forms.{is_amount, is_stamp, is_hold_time};
-ghost use Rattle.iss_model.specs.rules.Settings.{card_named};
-ghost use Rattle.iss_model.specs.rules.Acts.{entries_of_acts};
 ghost use Rattle.iss_core.specs.States.{facts_of, kept_state};
 ghost use Rattle.iss_core.specs.Asks.{ask_of};
-ghost use Rattle.iss_core.specs.Cards.{first_ask_acts, purchase_acts, purchase_ask};
+ghost use Rattle.iss_core.specs.Cards.{first_ask_acts, named_card_acts, purchase_acts, purchase_ask};
 ghost use Rattle.iss_core.specs.Order.{IsInOrder};
+ghost use Rattle.iss_core.specs.Adding.{AddsActs};
 
 use crate::asks::Ask;
 use crate::looking::is_active_card;
@@ -42,8 +41,7 @@ impl State {
         requires order { IsInOrder (kept_state self.now) }
         requires amount { IsTrue (is_amount purchase.now.amount) }
         requires stamp { IsTrue (is_stamp purchase.now.at) }
-        ensures { OnOk result (out.new.items ≡ out.old.items
-            ++ entries_of_acts (purchase_acts (facts_of self.now) purchase.now (card_named purchase.now.card (facts_of self.now).cards))) }
+        ensures { OnOk result (AddsActs out.old out.new (named_card_acts (facts_of self.now) purchase.now)) }
     {
         match self.cards.card(&purchase.card) {
             None => put_declined(out, &purchase.token, Reason::CardUnknown),
@@ -61,8 +59,7 @@ impl State {
         requires order { IsInOrder (kept_state self.now) }
         requires amount { IsTrue (is_amount purchase.now.amount) }
         requires stamp { IsTrue (is_stamp purchase.now.at) }
-        ensures { OnOk result (out.new.items ≡ out.old.items
-            ++ entries_of_acts (purchase_acts (facts_of self.now) purchase.now (Some card.now))) }
+        ensures { OnOk result (AddsActs out.old out.new (purchase_acts (facts_of self.now) purchase.now (Some card.now))) }
     {
         if !is_active_card(card.state) {
             return put_declined(out, &purchase.token, Reason::CardState);
@@ -113,7 +110,7 @@ impl State {
         requires order { IsInOrder (kept_state self.now) }
         requires amount { IsTrue (is_amount ask.now.amount) }
         requires stamp { IsTrue (is_stamp ask.now.at) }
-        ensures { OnOk result (out.new.items ≡ out.old.items ++ entries_of_acts (first_ask_acts (facts_of self.now) (ask_of ask.now))) }
+        ensures { OnOk result (AddsActs out.old out.new (first_ask_acts (facts_of self.now) (ask_of ask.now))) }
     {
         if let Some(why) = self.ask_reason(ask) {
             return put_declined(out, &ask.event, why);

@@ -1,7 +1,7 @@
 //! Why settings and loads are declined: for each the first reason that holds.
 ghost use Rattle.std.specs.Prelude.{◌≡◌};
 ghost use Rattle.iss_model.specs.rules.Reasons.{user_reason, card_reason, move_reason, card_move_reason, user_move_reason, product_reason, group_reason, control_reason, set_reason, switch_reason, load_reason, lacks_user, lacks_product, lacks_group};
-ghost use Rattle.iss_core.specs.Reasons.{new_control_reason, new_set_reason};
+ghost use Rattle.iss_core.specs.Reasons.{reason_of_control, new_control_reason, new_set_reason};
 ghost use Rattle.iss_model.specs.rules.Settings.{card_named, user_named};
 ghost use Rattle.iss_core.specs.States.{facts_of};
 
@@ -91,8 +91,7 @@ impl State {
     }
 
     pub(crate) fn control_reason(&self, control: &Control) -> Option<Reason>
-        ensures { result ≡ control_reason (facts_of self.now) control.now.name control.now.currency control.now.window
-            control.now.association control.now.scope control.now.offset }
+        ensures { result ≡ reason_of_control (facts_of self.now) control.now }
     {
         match self.controls.get(&control.name) {
             Some(standing) if is_same_control(standing, control) => None,

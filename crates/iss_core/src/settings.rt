@@ -1,10 +1,11 @@
 //! The entries of settings and loads.
-ghost use Rattle.std.specs.Prelude.{◌≡◌, [], ◌∷◌, ◌++◌, OnOk, IsTrue};
+ghost use Rattle.std.specs.Prelude.{[], ◌∷◌, OnOk, IsTrue};
 ghost use Rattle.iss_model.specs.Forms.{is_amount};
-ghost use Rattle.iss_model.specs.rules.Acts.{Loads, Sets, entries_of_acts};
+ghost use Rattle.iss_model.specs.rules.Acts.{Sets};
 ghost use Rattle.iss_model.specs.rules.Stepping.{acts_unless};
-ghost use Rattle.iss_model.specs.rules.Reasons.{load_reason};
 ghost use Rattle.iss_core.specs.States.{facts_of};
+ghost use Rattle.iss_core.specs.Settings.{load_acts};
+ghost use Rattle.iss_core.specs.Adding.{AddsActs};
 
 use crate::pieces::{put_decided, put_declined};
 use crate::state::State;
@@ -19,7 +20,7 @@ pub(crate) fn put_setting(
     token: &Token,
     input: &Input,
 ) -> Result<(), AllocError>
-    ensures { OnOk result (out.new.items ≡ out.old.items ++ entries_of_acts (acts_unless why token.now (Sets input.now token.now ∷ []))) }
+    ensures { OnOk result (AddsActs out.old out.new (acts_unless why token.now (Sets input.now token.now ∷ []))) }
 {
     match why {
         Some(why) => put_declined(out, token, why),
@@ -40,8 +41,7 @@ impl State {
         currency: Currency,
         amount: u64,
     ) -> Result<(), AllocError>
-        ensures { OnOk result (out.new.items ≡ out.old.items
-            ++ entries_of_acts (acts_unless (load_reason (facts_of self.now) user.now) token.now (Loads token.now user.now currency amount ∷ []))) }
+        ensures { OnOk result (AddsActs out.old out.new (load_acts (facts_of self.now) token.now user.now currency amount)) }
     {
         if let Some(why) = self.load_reason(user) {
             return put_declined(out, token, why);

@@ -21,7 +21,7 @@ impl State {
     ) -> Result<bool, AllocError>
         requires { set_part (kept_state self.old) ≡ kept_state self.old }
         ensures judged { IfOk result (λ judged. IsTrue judged ↔ AreJudged (kept_state self.old) events.now) }
-        ensures set { IfOk result (λ judged. IsTrue judged → kept_state self.new ≡ fold with_seen_setting (kept_state self.old) events.now) }
+        ensures set { IfOk result (λ good. IsTrue good → kept_state self.new ≡ fold with_seen_setting (kept_state self.old) events.now) }
     {
         for event in events {
             if !self.take_up_setting(alloc, event)? {

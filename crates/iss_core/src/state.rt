@@ -1,9 +1,8 @@
 //! The parts that a core is made of.
-ghost use Rattle.std.specs.Prelude.{◌≡◌, ℕ, ◌+◌, ◌^◌, ◌<◌, List, Some, None, IfOk, OnOk, IsTrue};
-ghost use Rattle.std.specs.List.{find};
-ghost use Rattle.iss_model.specs.Inputs.{event_token, is_event};
+ghost use Rattle.std.specs.Prelude.{◌≡◌, ◌+◌, ◌^◌, ◌<◌, IfOk, OnOk, IsTrue};
 ghost use Rattle.iss_model.specs.Forms.{is_in_form, is_stamp};
 ghost use Rattle.iss_model.specs.state.Cores.{no_core, with_record};
+ghost use Rattle.iss_accepted.specs.Values.{IsUnknown};
 ghost use Rattle.iss_core.specs.States.{kept_state};
 
 use iss_accepted::Events;
@@ -65,8 +64,7 @@ impl State {
         requires room { self.old.count + 1 < 2 ^ 32 }
         requires input_form { IsTrue (is_in_form accepted.now.input) }
         requires stamp_form { IsTrue (is_stamp accepted.now.at) }
-        requires new { (token : List ℕ) → event_token accepted.now.input ≡ Some token
-            → find (λ a. is_event token a.input) self.old.events.accepted ≡ None }
+        requires new { IsUnknown self.old.events accepted.now.input }
         ensures { OnOk result (kept_state self.new ≡ with_record (kept_state self.old) accepted.now) }
     {
         self.time = self.time.max(accepted.at);

@@ -1,11 +1,12 @@
 //! A record that was taken up settles what is due, and then makes its own entries.
-ghost use Rattle.std.specs.Prelude.{◌≡◌, ◌++◌, [], fold, OnOk, IsTrue};
+ghost use Rattle.std.specs.Prelude.{◌≡◌, [], OnOk, IsTrue};
 ghost use Rattle.iss_model.specs.Forms.{is_in_form, is_stamp};
-ghost use Rattle.iss_model.specs.rules.Stepping.{after_due, entries_of};
-ghost use Rattle.iss_model.specs.state.Cores.{core_keeper, after_entry};
+ghost use Rattle.iss_model.specs.rules.Stepping.{after_due, own_entries};
+ghost use Rattle.iss_model.specs.state.Cores.{core_keeper};
 ghost use Rattle.iss_core.specs.States.{facts_of, kept_state};
 ghost use Rattle.iss_core.specs.Sound.{IsTakenUp};
-ghost use Rattle.iss_core.specs.Sweeps.{grown, settle_thing, thing_of};
+ghost use Rattle.iss_core.specs.Sweeps.{growth_of, settle_one, with_own_entries};
+ghost use Rattle.iss_core.specs.Adding.{Adds};
 
 use crate::due::Due;
 use crate::state::State;
@@ -23,7 +24,7 @@ impl State {
         requires taken_up { IsTakenUp accepted.now.input (kept_state self.old) }
         requires stamp { IsTrue (is_stamp accepted.now.at) }
         requires empty { out.old.items ≡ [] }
-        ensures settled { OnOk result (grown (kept_state self.new) out.new.items ≡ after_due core_keeper (kept_state self.old) accepted.now.at) }
+        ensures settled { OnOk result (growth_of self.new out.new ≡ after_due core_keeper (kept_state self.old) accepted.now.at) }
         ensures taken_up { OnOk result (IsTakenUp accepted.now.input (kept_state self.new)) }
     {
         if !self.is_due(accepted.at) {
@@ -46,8 +47,7 @@ impl State {
     ) -> Result<(), AllocError>
         requires taken_up { IsTakenUp accepted.now.input (kept_state self.old) }
         requires stamp { IsTrue (is_stamp accepted.now.at) }
-        ensures settled { OnOk result (grown (kept_state self.new) out.new.items
-            ≡ settle_thing accepted.now.at (grown (kept_state self.old) out.old.items) (thing_of thing.now)) }
+        ensures settled { OnOk result (growth_of self.new out.new ≡ settle_one accepted.now.at (growth_of self.old out.old) thing.now) }
         ensures taken_up { OnOk result (IsTakenUp accepted.now.input (kept_state self.new)) }
     {
         let start = out.len();
@@ -65,9 +65,8 @@ impl State {
         requires taken_up { IsTakenUp accepted.now.input (kept_state self.old) }
         requires input_form { IsTrue (is_in_form accepted.now.input) }
         requires stamp { IsTrue (is_stamp accepted.now.at) }
-        ensures entries { OnOk result (out.new.items ≡ out.old.items ++ entries_of accepted.now.input accepted.now.at (facts_of self.old)) }
-        ensures state { OnOk result (kept_state self.new
-            ≡ fold after_entry (kept_state self.old) (entries_of accepted.now.input accepted.now.at (facts_of self.old))) }
+        ensures entries { OnOk result (Adds out.old out.new (own_entries accepted.now (facts_of self.old))) }
+        ensures state { OnOk result (kept_state self.new ≡ with_own_entries (kept_state self.old) accepted.now) }
     {
         let start = out.len();
         self.put_own(alloc, out, accepted)?;

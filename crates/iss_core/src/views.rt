@@ -1,18 +1,17 @@
 //! What a core answers: each by its state, and on the book of the records that it stands for.
 ghost use Rattle.std.specs.Prelude.{◌≡◌, List, length, map, IfOk, IsTrue};
-ghost use Rattle.std.specs.Option.{option_map, option_copied};
+ghost use Rattle.std.specs.Option.{option_copied};
 ghost use Rattle.std.specs.FinMap as finite;
 ghost use Rattle.iss_model.specs.declared.input.Record.{Record};
 ghost use Rattle.iss_model.specs.Sums.{account_key};
 ghost use Rattle.iss_model.specs.Forms.{is_stamp};
 ghost use Rattle.iss_model.specs.rules.Facts.{event_reply, balance_in, held_in, call_in};
 ghost use Rattle.iss_model.specs.rules.Asks.{used_in};
-ghost use Rattle.iss_model.specs.texts.BalanceLines.{accounts_of};
-ghost use Rattle.iss_model.specs.rules.Histories.{book_facts, history_of, time_of};
+ghost use Rattle.iss_model.specs.rules.Histories.{book_facts, time_of};
 ghost use Rattle.iss_model.specs.state.Cores.{core_facts};
 ghost use Rattle.iss_call.specs.States.{call_state_of};
 ghost use Rattle.iss_core.specs.Values.{CoreStandsFor};
-ghost use Rattle.iss_core.specs.Views.{pending_notice, asked_calls, asked_openings, pending_numbers};
+ghost use Rattle.iss_core.specs.Views.{pending_notice, asked_calls, asked_openings, booked_keys, opening_in, pending_numbers};
 
 use crate::Core;
 use iss_model::{Account, CallId, CallState, Currency, Notice, Opened, Reply, Token, Used};
@@ -82,9 +81,9 @@ impl Core {
 
     /// A call as it was opened, `None` exactly if it was never asked.
     pub fn opened(&self, call: CallId) -> Option<Opened>
-        ensures value { result ≡ option_map (λ c. c.opened) (call_in (core_facts self.now.state) call.0) }
+        ensures value { result ≡ opening_in (core_facts self.now.state) call.0 }
         ensures on_book { (rs : List Record) → CoreStandsFor self.now rs
-            → result ≡ option_map (λ c. c.opened) (call_in (book_facts rs) call.0) }
+            → result ≡ opening_in (book_facts rs) call.0 }
     {
         self.state.calls.opened(call)
     }
@@ -149,7 +148,7 @@ impl Core {
     pub fn accounts(&self, alloc: Global) -> Result<Vec<Account>, AllocError>
         ensures value { IfOk result (λ v. map account_key v.items ≡ finite.keys self.now.state.balances) }
         ensures on_book { (rs : List Record) → CoreStandsFor self.now rs
-            → IfOk result (λ v. map account_key v.items ≡ map account_key (accounts_of (history_of rs).rows)) }
+            → IfOk result (λ v. map account_key v.items ≡ booked_keys rs) }
     {
         self.state.chain.accounts(alloc)
     }

@@ -15,8 +15,17 @@ use Rattle.iss_session.specs.Happenings.{session_after, session_steps, last_step
 use Rattle.iss_session.specs.Accepted.{lines_judged, session_records}
 use Rattle.iss_session.specs.Accounts.{has_no_gateway, IsLocal}
 use Rattle.iss_session.specs.Levels.{LevelsRise}
-use Rattle.iss_session.specs.Openings.{left_open}
+use Rattle.iss_session.specs.Openings.{left_open, ReadsEvents}
+use Rattle.iss_session.specs.Serving.{Serves, ServesAll}
 use Rattle.iss_session.specs.Turns.{waits_in}
+
+-- this holds of whatever a session goes through
+abbrev pub InEachSession : (Readers → Session → List Happening → Type 0) → Type 0
+InEachSession P = (read : Readers) (s : Session) (happenings : List Happening) → P read s happenings
+
+-- this holds of whatever a run with this many turns goes through
+abbrev pub InEachRun : (Readers → Run → ℕ → List Happening → Type 0) → Type 0
+InEachRun P = (read : Readers) (run : Run) (turns : ℕ) (happenings : List Happening) → P read run turns happenings
 
 -- the session after these happenings, and then those
 abbrev pub session_then : Readers → Session → List Happening → List Happening → Session
@@ -89,6 +98,11 @@ abbrev pub StaysGoodUpTo : (starts stands : List ℕ → ℕ → Type 0) → ℕ
 StaysGoodUpTo starts stands j read s happenings =
     count (session_after read s happenings) ≤ j → StaysGood starts stands j (session_steps read s happenings)
 
+-- it is, for each number of records such that an image that begins at it stands for them
+abbrev pub StaysGoodFrom : (starts stands : List ℕ → ℕ → Type 0) → Readers → Session → List Happening → Type 0
+StaysGoodFrom starts stands read s happenings =
+    (j : ℕ) → StartsStand starts stands j → StaysGoodUpTo starts stands j read s happenings
+
 -- the closes at the end of a session of at most this many records are such a stretch too
 abbrev pub EndsGood : (starts stands : List ℕ → ℕ → Type 0) → ℕ → Session → Type 0
 EndsGood starts stands j s = count s ≤ j → StaysGood starts stands j (last_steps s)
@@ -97,11 +111,24 @@ EndsGood starts stands j s = count s ≤ j → StaysGood starts stands j (last_s
 abbrev pub WentOut : ℕ → List Step → Outer → Outer → Type 0
 WentOut ch steps a b = sent_on ch b.world.trace ≡ sent_on ch a.world.trace ++ sent_on ch (actions_of steps)
 
+-- if one session was served to another, then what went out on each channel is what its happenings say
+abbrev pub SendsItsTexts : Readers → Session → Session → Outer → Outer → Type 0
+SendsItsTexts read s t a b = (ch : ℕ) (p : Serves read s t a b) → WentOut ch (session_steps read s p.happenings) a b
+
+-- if a run was served to its end, then what went out on each channel is what its happenings and its last closes say
+abbrev pub SendsAllTexts : Readers → Run → ℕ → Session → Outer → Outer → Type 0
+SendsAllTexts read run turns t a b =
+    (ch : ℕ) (p : ServesAll read run turns t a b) → WentOut ch (whole_steps read run turns p.happenings t) a b
+
 -- if these happenings are all of a run, a channel that wasn't open before them is closed in the end
 abbrev pub DialledIsClosed : Readers → Run → ℕ → List Happening → ℕ → Type 0
 DialledIsClosed read run turns happenings n =
     Fits read (session_of run turns) happenings → IsComplete (run_session read run turns happenings)
     → left_open n false (actions_of (steps_to_end read (session_of run turns) happenings)) ≡ false
+
+-- a channel that wasn't open before is closed in the end, if events alone are read
+abbrev pub ClosesDialled : Readers → Run → ℕ → List Happening → Type 0
+ClosesDialled read run turns happenings = (n : ℕ) → ReadsEvents read → DialledIsClosed read run turns happenings n
 
 -- a client comes on this channel
 abbrev pub ComesOn : HeardItem → Channel → Type 0
@@ -114,6 +141,16 @@ ClientIsClosed read run turns before after item ch =
     → IsComplete (run_session read run turns (before ++ hears item ∷ after))
     → left_open ch.0 true (actions_of (steps_to_end read (run_session read run turns (before ++ hears item ∷ [])) after)) ≡ false
 
+-- a channel that a client comes on after these happenings is closed in the end, if events alone are read
+abbrev pub ClosesClients : Readers → Run → ℕ → List Happening → Type 0
+ClosesClients read run turns before =
+    (after : List Happening) (item : HeardItem) (ch : Channel) → ReadsEvents read → ClientIsClosed read run turns before after item ch
+
 -- a session whose book has no product of the gateway sends it nothing, and awaits nothing of it
 abbrev pub IsLocalWithNoGateway : Session → Type 0
 IsLocalWithNoGateway s = has_no_gateway s.run.history.rows ≡ true → IsLocal s
+
+-- the session that a run on the book of some records comes to is of that kind
+abbrev pub StaysLocal : Readers → Run → ℕ → List Happening → Type 0
+StaysLocal read run turns happenings =
+    (rs : List Record) → run.history ≡ history_of rs → IsLocalWithNoGateway (run_session read run turns happenings)

@@ -7,8 +7,8 @@ ghost use Rattle.iss_session.specs.Desks.{Desk, TextFate};
 ghost use Rattle.iss_session.specs.Sessions.{Readers, Session};
 ghost use Rattle.iss_session.specs.Happenings.{session_after, session_steps, Fits};
 ghost use Rattle.iss_session.specs.Sendings.{Sends};
-ghost use Rattle.iss_session.specs.Serving.{Serves, ServesAll};
-ghost use Rattle.iss_session.specs.Courses.{AddsLegalRecords, AddsRecords, AddsToBook, EndsGood, FitThen, HeardIsAll, RisesThrough, RunsAsLines, StartsStand, StaysGoodUpTo, WaitsTakeTurns, WentOut, session_then, steps_then, whole_steps};
+ghost use Rattle.iss_session.specs.Serving.{Serves};
+ghost use Rattle.iss_session.specs.Courses.{AddsLegalRecords, AddsRecords, AddsToBook, EndsGood, FitThen, HeardIsAll, RisesThrough, InEachSession, RunsAsLines, SendsAllTexts, SendsItsTexts, StartsStand, StaysGoodFrom, WaitsTakeTurns, session_then, steps_then};
 
 use iss_edge::Showing;
 
@@ -63,15 +63,12 @@ pub fn waits_are_turns()
 /// What a session does up to j records, and the closes at its end, are stretches that are good from j to j. A stop within
 /// them leaves a device that shows the j records, and no text went out before its record stood.
 pub fn sessions_are_good_stretches<S: Showing>()
-    ensures steps { (read : Readers) (s : Session) (happenings : List Happening) (j : ℕ)
-        → StartsStand S.starts S.stands j → StaysGoodUpTo S.starts S.stands j read s happenings }
+    ensures steps { InEachSession (StaysGoodFrom S.starts S.stands) }
     ensures last { (s : Session) (j : ℕ) → StartsStand S.starts S.stands j → EndsGood S.starts S.stands j s }
 {}
 
 /// What went out on a channel is what the session sends on it, in its order.
 pub fn texts_are_sent()
-    ensures part { (read : Readers) (s t : Session) (a b : Outer) (ch : ℕ) (p : Serves read s t a b)
-        → WentOut ch (session_steps read s p.happenings) a b }
-    ensures whole { (read : Readers) (run : Run) (turns : ℕ) (t : Session) (a b : Outer) (ch : ℕ)
-        (p : ServesAll read run turns t a b) → WentOut ch (whole_steps read run turns p.happenings t) a b }
+    ensures part { (read : Readers) (s t : Session) (a b : Outer) → SendsItsTexts read s t a b }
+    ensures whole { (read : Readers) (run : Run) (turns : ℕ) (t : Session) (a b : Outer) → SendsAllTexts read run turns t a b }
 {}
