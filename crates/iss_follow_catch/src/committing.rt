@@ -43,20 +43,20 @@ fn commit_one<T: Edge>(
     alloc: Global,
     to: &mut T,
     mut store: Store,
-    record: &Record,
+    accepted: &Record,
 ) -> Result<Store, Stop>
     requires size { T.extent to.old ≡ store.layout.size }
-    requires spelled { IsTrue (is_record record.now) }
-    ensures takes { IfOk result (λ next. TakesUp store next (record.now ∷ [])) }
-    ensures lasts { IfOk result (λ next. Told (Lasts store next (record.now ∷ [])) (T.told to.old) (T.told to.new)) }
-    ensures part { Told (LastsInPart store (record.now ∷ [])) (T.told to.old) (T.told to.new) }
+    requires spelled { IsTrue (is_record accepted.now) }
+    ensures takes { IfOk result (λ next. TakesUp store next (accepted.now ∷ [])) }
+    ensures lasts { IfOk result (λ next. Told (Lasts store next (accepted.now ∷ [])) (T.told to.old) (T.told to.new)) }
+    ensures part { Told (LastsInPart store (accepted.now ∷ [])) (T.told to.old) (T.told to.new) }
     ensures left { WhereLeft result (Told (LastsSome store) (T.told to.old) (T.told to.new)) }
-    ensures stops { IfErr result (StopsAt store record.now) }
+    ensures stops { IfErr result (StopsAt store accepted.now) }
     ensures unplanned { WhereUnplanned result (to.new ≡ to.old) }
     ensures cause { DiskCaused (T.faults to.old) (T.faults to.new) result }
     ensures kept { Stays T.extent to.old to.new }
 {
-    let planned = plan_of(alloc, &mut store, record)?;
+    let planned = plan_of(alloc, &mut store, accepted)?;
     match store.commit(alloc, to, planned) {
         Ok((next, _)) => Ok(next),
         Err(StoreFault::OutOfMemory) => Err(Stop::Memory),
@@ -69,19 +69,19 @@ fn commit_one<T: Edge>(
 /// The plan of a record. `NotBehind` if it doesn't follow on what stands, and `NoRoom` if it doesn't fit, or if there are as many
 /// records as there may be.
 #[tactic(auto, using(crate::proofs::PlansMade::itself_alone, crate::proofs::PlansMade::told_alone))]
-fn plan_of(alloc: Global, store: &mut Store, record: &Record) -> Result<Planned, Stop>
-    requires { IsTrue (is_record record.now) }
+fn plan_of(alloc: Global, store: &mut Store, accepted: &Record) -> Result<Planned, Stop>
+    requires { IsTrue (is_record accepted.now) }
     ensures kept { store.new ≡ store.old }
     ensures plan { IfOk result (IsPlanOf store.old) }
-    ensures is { IfOk result (λ planned. planned.accepted ≡ record.now) }
-    ensures fits { IfOk result (λ planned. (rs : List Record) → StandsFor store.old rs → FitsNext (room_on store.old) rs record.now) }
-    ensures stops { IfErr result (StopsAt store.old record.now) }
+    ensures is { IfOk result (λ planned. planned.accepted ≡ accepted.now) }
+    ensures fits { IfOk result (λ planned. (rs : List Record) → StandsFor store.old rs → FitsNext (room_on store.old) rs accepted.now) }
+    ensures stops { IfErr result (StopsAt store.old accepted.now) }
     ensures alone { IfErr result (λ why. why ≢ Disk) }
 {
-    if record.at < store.core().now() {
+    if accepted.at < store.core().now() {
         return Err(Stop::NotBehind);
     }
-    match store.plan(alloc, &record.input, record.at) {
+    match store.plan(alloc, &accepted.input, accepted.at) {
         Ok(planned) => plan_itself(planned),
         Err(PlanFault::Told(answer)) => Err(stop_told(&answer)),
         Err(PlanFault::OutOfMemory) => Err(Stop::Memory),

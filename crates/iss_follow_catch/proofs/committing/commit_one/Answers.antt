@@ -11,7 +11,7 @@ use Rattle.iss_follow_catch.proofs.committing.commit_one.Goals as goal
 
 pub returns-in_err-planned-clause-part : goal.returns-in_err-planned-clause-part
 returns-in_err-planned-clause-part g c =
-    told_self (LastsInPart c.args.store (c.args.record.now ∷ [])) (g.T.Edge.told c.args.to.now) (part_none c.args.store (c.args.record.now ∷ []))
+    told_self (LastsInPart c.args.store (c.args.accepted.now ∷ [])) (g.T.Edge.told c.args.to.now) (part_none c.args.store (c.args.accepted.now ∷ []))
 
 pub returns-in_err-planned-clause-cause : goal.returns-in_err-planned-clause-cause
 returns-in_err-planned-clause-cause g c =
@@ -43,29 +43,29 @@ returns-in-Ok-clause-takes g c =
     let commits : Commits c.args.store c.in_ok-planned.planned c.in-Ok.next c.in-Ok.field-0-1 = search rules in
     let book : (rs : List Record) → StandsFor c.args.store rs → CommitsOnBook c.args.store c.in-Ok.next rs c.in_ok-planned.planned c.in-Ok.field-0-1 =
     subst (λ (s : StoreNow). (rs : List Record) → StandsFor s rs → CommitsOnBook s c.in-Ok.next rs c.in_ok-planned.planned c.in-Ok.field-0-1) c.plan_of.ensures.kept c.in-Ok.ensures.on_book in
-    takes_one c.args.store c.in-Ok.next c.in_ok-planned.planned c.in-Ok.field-0-1 c.args.record.now c.in_ok-planned.ensures.is commits book c.in_ok-planned.ensures.fits
+    takes_one c.args.store c.in-Ok.next c.in_ok-planned.planned c.in-Ok.field-0-1 c.args.accepted.now c.in_ok-planned.ensures.is commits book c.in_ok-planned.ensures.fits
 
 pub returns-in-Ok-clause-lasts : goal.returns-in-Ok-clause-lasts
 returns-in-Ok-clause-lasts g c =
     let commits : Commits c.args.store c.in_ok-planned.planned c.in-Ok.next c.in-Ok.field-0-1 = search rules in
     let lasts : Told (Keeps c.args.store c.in_ok-planned.planned.accepted) (g.T.Edge.told c.args.to.now) (g.T.Edge.told c.commit.new.edge) = search rules in
-    told_map (Keeps c.args.store c.in_ok-planned.planned.accepted) (Lasts c.args.store c.in-Ok.next (c.args.record.now ∷ [])) (g.T.Edge.told c.args.to.now) (g.T.Edge.told c.commit.new.edge)
-    (lasts_one c.args.store c.in-Ok.next c.in_ok-planned.planned c.in-Ok.field-0-1 c.args.record.now c.in_ok-planned.ensures.is commits) lasts
+    told_map (Keeps c.args.store c.in_ok-planned.planned.accepted) (Lasts c.args.store c.in-Ok.next (c.args.accepted.now ∷ [])) (g.T.Edge.told c.args.to.now) (g.T.Edge.told c.commit.new.edge)
+    (lasts_one c.args.store c.in-Ok.next c.in_ok-planned.planned c.in-Ok.field-0-1 c.args.accepted.now c.in_ok-planned.ensures.is commits) lasts
 
 pub returns-in-Ok-clause-part : goal.returns-in-Ok-clause-part
 returns-in-Ok-clause-part g c =
     let moments : Told (KeepsPart c.args.store c.in_ok-planned.planned.accepted) (g.T.Edge.told c.args.to.now) (g.T.Edge.told c.commit.new.edge) = search rules in
-    told_map (KeepsPart c.args.store c.in_ok-planned.planned.accepted) (LastsInPart c.args.store (c.args.record.now ∷ [])) (g.T.Edge.told c.args.to.now) (g.T.Edge.told c.commit.new.edge)
-    (λ a b. part_one c.args.store c.in_ok-planned.planned c.args.record.now a b c.in_ok-planned.ensures.is) moments
+    told_map (KeepsPart c.args.store c.in_ok-planned.planned.accepted) (LastsInPart c.args.store (c.args.accepted.now ∷ [])) (g.T.Edge.told c.args.to.now) (g.T.Edge.told c.commit.new.edge)
+    (λ a b. part_one c.args.store c.in_ok-planned.planned c.args.accepted.now a b c.in_ok-planned.ensures.is) moments
 
 pub returns-in-Err-OutOfMemory-clause-part : goal.returns-in-Err-OutOfMemory-clause-part
 returns-in-Err-OutOfMemory-clause-part g c =
     let moments : Told (KeepsPart c.args.store c.in_ok-planned.planned.accepted) (g.T.Edge.told c.args.to.now) (g.T.Edge.told c.commit.new.edge) = search rules in
-    told_map (KeepsPart c.args.store c.in_ok-planned.planned.accepted) (LastsInPart c.args.store (c.args.record.now ∷ [])) (g.T.Edge.told c.args.to.now) (g.T.Edge.told c.commit.new.edge)
-    (λ a b. part_one c.args.store c.in_ok-planned.planned c.args.record.now a b c.in_ok-planned.ensures.is) moments
+    told_map (KeepsPart c.args.store c.in_ok-planned.planned.accepted) (LastsInPart c.args.store (c.args.accepted.now ∷ [])) (g.T.Edge.told c.args.to.now) (g.T.Edge.told c.commit.new.edge)
+    (λ a b. part_one c.args.store c.in_ok-planned.planned c.args.accepted.now a b c.in_ok-planned.ensures.is) moments
 
 pub returns-in-Err-Disk-clause-part : goal.returns-in-Err-Disk-clause-part
 returns-in-Err-Disk-clause-part g c =
     let moments : Told (KeepsPart c.args.store c.in_ok-planned.planned.accepted) (g.T.Edge.told c.args.to.now) (g.T.Edge.told c.commit.new.edge) = search rules in
-    told_map (KeepsPart c.args.store c.in_ok-planned.planned.accepted) (LastsInPart c.args.store (c.args.record.now ∷ [])) (g.T.Edge.told c.args.to.now) (g.T.Edge.told c.commit.new.edge)
-    (λ a b. part_one c.args.store c.in_ok-planned.planned c.args.record.now a b c.in_ok-planned.ensures.is) moments
+    told_map (KeepsPart c.args.store c.in_ok-planned.planned.accepted) (LastsInPart c.args.store (c.args.accepted.now ∷ [])) (g.T.Edge.told c.args.to.now) (g.T.Edge.told c.commit.new.edge)
+    (λ a b. part_one c.args.store c.in_ok-planned.planned c.args.accepted.now a b c.in_ok-planned.ensures.is) moments

@@ -9,27 +9,27 @@ use Rattle.iss_follow_catch.proofs.committing.plan_of.Goals as goal
 pub returns-then-record-now-clause-stops : goal.returns-then-record-now-clause-stops
 returns-then-record-now-clause-stops c =
     let told : c.now.result ≡ c.args.store.now.core.state.now = search rules in
-    early_stops c.args.store.now c.args.record.now c.now.result told c.if-record-now.true
+    early_stops c.args.store.now c.args.accepted.now c.now.result told c.if-accepted-now.true
 
 pub returns-in-Ok-clause-is : goal.returns-in-Ok-clause-is
 returns-in-Ok-clause-is c =
     let told : c.now.result ≡ c.args.store.now.core.state.now = search rules in
-    let plans : Plans (judged_at c.args.store.now c.args.record.now.input c.args.record.now.at) (Ok c.in-Ok.planned) = search rules in
-    itself_is c.args.store.now c.args.record.now c.in-Ok.planned c.plan_itself.result c.now.result told (λ early. omega (arith, early, c.if-record-now.false)) plans c.plan_itself.ensures
+    let plans : Plans (judged_at c.args.store.now c.args.accepted.now.input c.args.accepted.now.at) (Ok c.in-Ok.planned) = search rules in
+    itself_is c.args.store.now c.args.accepted.now c.in-Ok.planned c.plan_itself.result c.now.result told (λ early. omega (arith, early, c.if-accepted-now.false)) plans c.plan_itself.ensures
 
 pub returns-in-Ok-clause-fits : goal.returns-in-Ok-clause-fits
 returns-in-Ok-clause-fits c =
     let told : c.now.result ≡ c.args.store.now.core.state.now = search rules in
-    let plans : Plans (judged_at c.args.store.now c.args.record.now.input c.args.record.now.at) (Ok c.in-Ok.planned) = search rules in
-    let book : PlansOnBook c.args.store.now c.args.record.now.input c.args.record.now.at (Ok c.in-Ok.planned) = search rules in
-    itself_fits c.args.store.now c.args.record.now c.in-Ok.planned c.plan_itself.result c.now.result told (λ early. omega (arith, early, c.if-record-now.false)) plans book c.plan_itself.ensures
+    let plans : Plans (judged_at c.args.store.now c.args.accepted.now.input c.args.accepted.now.at) (Ok c.in-Ok.planned) = search rules in
+    let book : PlansOnBook c.args.store.now c.args.accepted.now.input c.args.accepted.now.at (Ok c.in-Ok.planned) = search rules in
+    itself_fits c.args.store.now c.args.accepted.now c.in-Ok.planned c.plan_itself.result c.now.result told (λ early. omega (arith, early, c.if-accepted-now.false)) plans book c.plan_itself.ensures
 
 pub returns-in-Ok-clause-stops : goal.returns-in-Ok-clause-stops
 returns-in-Ok-clause-stops c =
-    let book : PlansOnBook c.args.store.now c.args.record.now.input c.args.record.now.at (Ok c.in-Ok.planned) = search rules in
-    itself_stops c.args.store.now c.args.record.now c.in-Ok.planned c.plan_itself.result book c.plan_itself.ensures
+    let book : PlansOnBook c.args.store.now c.args.accepted.now.input c.args.accepted.now.at (Ok c.in-Ok.planned) = search rules in
+    itself_stops c.args.store.now c.args.accepted.now c.in-Ok.planned c.plan_itself.result book c.plan_itself.ensures
 
 pub returns-in-Err-Told-clause-stops : goal.returns-in-Err-Told-clause-stops
 returns-in-Err-Told-clause-stops c =
-    let book : PlansOnBook c.args.store.now c.args.record.now.input c.args.record.now.at (Err (Told c.in-Err-Told.answer)) = search rules in
-    subst (λ (why : Stop). StopsAt c.args.store.now c.args.record.now why) (sym c.stop_told.ensures) (told_stops c.args.store.now c.args.record.now c.in-Err-Told.answer book)
+    let book : PlansOnBook c.args.store.now c.args.accepted.now.input c.args.accepted.now.at (Err (Told c.in-Err-Told.answer)) = search rules in
+    subst (λ (why : Stop). StopsAt c.args.store.now c.args.accepted.now why) (sym c.stop_told.ensures) (told_stops c.args.store.now c.args.accepted.now c.in-Err-Told.answer book)
