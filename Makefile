@@ -1,55 +1,18 @@
 # Needs the command rt, which proves and builds, on the PATH: `make doctor` tells what else.
-program := crates/iss_cli/out/iss_cli
+programs := issuer issuer_gateway issuer_follow issuer_archive
+# Where rt leaves a program.
+proved = $(if $(filter issuer,$1),crates/iss_cli/out/iss_cli,crates/$1/out/$1)
+program := $(call proved,issuer)
 first := crates/iss_cli/stdin
-gateway := crates/issuer_gateway/out/issuer_gateway
-follow := crates/issuer_follow/out/issuer_follow
-archive := crates/issuer_archive/out/issuer_archive
 sources := crates.txt HANDLES \
     $(shell find crates -name out -prune -o \( -name '*.rt' -o -name '*.antt' \) -print)
 
 .DEFAULT_GOAL := issuer
-.PHONY: help issuer gateway follow archive run crate check try test checks mutants bench twins map doctor
+.SECONDEXPANSION:
+.PHONY: help run test gate issuer gateway follow archive all crate check try checks mutants bench twins map doctor
 
 help: ## lists these targets
 	@awk -F ':.*## ' '/^[a-z]+:.*## / { printf "make %-8s %s\n", $$1, $$2 }' Makefile
-
-issuer: build/issuer ## proves the program with all that it stands on, and leaves it at build/issuer
-
-build/issuer: $(program)
-	install -D -m 755 $(program) build/issuer
-
-# rt leaves a program only where all is proved, so one that is newer than each source needs no second proof.
-$(program): $(sources)
-	cd crates/iss_cli && rt run -- dry </dev/null
-	touch $(program)
-
-gateway: build/issuer_gateway ## proves the reference gateway likewise, and leaves it at build/issuer_gateway
-
-build/issuer_gateway: $(gateway)
-	install -D -m 755 $(gateway) build/issuer_gateway
-
-# Without words it tells how it is called, with status 2.
-$(gateway): $(sources)
-	cd crates/issuer_gateway && rm -f out/issuer_gateway && { rt run || [ -x out/issuer_gateway ]; }
-	touch $(gateway)
-
-follow: build/issuer_follow ## proves the program of a second device likewise, and leaves it at build/issuer_follow
-
-build/issuer_follow: $(follow)
-	install -D -m 755 $(follow) build/issuer_follow
-
-$(follow): $(sources)
-	cd crates/issuer_follow && rm -f out/issuer_follow && { rt run || [ -x out/issuer_follow ]; }
-	touch $(follow)
-
-archive: build/issuer_archive ## proves the program of the archive likewise, and leaves it at build/issuer_archive
-
-build/issuer_archive: $(archive)
-	install -D -m 755 $(archive) build/issuer_archive
-
-$(archive): $(sources)
-	cd crates/issuer_archive && rm -f out/issuer_archive && { rt run || [ -x out/issuer_archive ]; }
-	touch $(archive)
 
 run: ## shows the replies to the first example: at once if the proved program is up to date, else, in minutes, by a build that is not proved
 	@if $(MAKE) -qs $(program); then \
@@ -58,6 +21,31 @@ run: ## shows the replies to the first example: at once if the proved program is
 	    echo 'This build takes some minutes, and is not proved: `make issuer` proves the program, and leaves it at build/issuer.' && \
 	    cd crates/iss_cli && rt try -- dry <../../$(first); \
 	fi
+
+test: ## tests, the first example, and checks of sources, documents and examples, side by side; it proves nothing
+	@.ci/test
+
+gate: ## all that a change has to pass: each proof, wrong body and test, and each check, also of the proved program
+	@.ci/run
+
+issuer: build/issuer ## proves the program with all that it stands on, and leaves it at build/issuer
+
+gateway: build/issuer_gateway ## proves the reference gateway likewise, and leaves it at build/issuer_gateway
+
+follow: build/issuer_follow ## proves the program of a second device likewise, and leaves it at build/issuer_follow
+
+archive: build/issuer_archive ## proves the program of the archive likewise, and leaves it at build/issuer_archive
+
+all: issuer gateway follow archive ## proves all four programs, and leaves them in build/
+
+$(programs:%=build/%): build/%: $$(call proved,$$*)
+	install -D -m 755 $< $@
+
+# rt leaves a program only if all is proved, so one that is newer than each source needs no second proof. Without words each of them
+# tells how it is called, with status 2.
+$(foreach it,$(programs),$(call proved,$(it))): $(sources)
+	cd $(dir $(@D)) && rm -f out/$(@F) && { rt run </dev/null || [ -x out/$(@F) ]; }
+	touch $@
 
 crate:
 	@[ -d 'crates/$(CRATE)/src' ] || { echo 'Name a crate, as in CRATE=iss_card.' >&2; exit 1; }
@@ -68,13 +56,10 @@ check: crate ## proves one crate, as in make check CRATE=iss_card
 try: crate ## runs one crate's tests without proving them, as in make try CRATE=iss_words_tests
 	cd crates/$(CRATE) && rt try --test
 
-test: ## all that a change has to pass: each proof, wrong body, test and check
-	.ci/run
-
 checks: ## lists the checks of the gate, and what each of them asks
 	@awk 'FNR == 1 { name = FILENAME; sub(/.*\//, "", name); head = 1; next } head && /^# / { print name ":" substr($$0, 2); name = "   "; next } { head = 0 }' .ci/checks/*
 
-mutants: ## tries all wrong bodies in copies, and lists those that were not refused; make mutants CRATE=iss_card tries one crate's
+mutants: ## tries all wrong bodies in a copy, and lists those that were not refused; make mutants CRATE=iss_card tries one crate's
 	@.ci/mutants.py try $(CRATE)
 
 bench: issuer archive ## lines per second, memory, cache misses, and openings; replies and served calls per second on a device, beside a loop in C; calls of the system; hostile use; want of memory; costs of long input; postings archived

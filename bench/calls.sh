@@ -13,7 +13,7 @@ done
 in_folder "${1:-/dev/shm}"
 own=17
 
-# bought FLIGHT COUNT WORD..: so many purchases, this number of them in flight, from a program that these words begin.
+# bought FLIGHT COUNT WORD..: COUNT purchases, FLIGHT of them in flight, from a program that these words begin.
 bought() {
     started 0 "${@:3}"
     "$room/load" "$port" 0 "$2" "$1" c1 m1 0 >"$room/replies" 2>"$room/figures"

@@ -30,7 +30,7 @@ leave() {
     rm -rf "$room" "$folder"
 }
 
-# started MILLIS [WORD..]: serves a new device, by the command that these words begin, and a gateway answers after so many milliseconds.
+# started MILLIS [WORD..]: serves a new device, by the command that these words begin, and a gateway answers after MILLIS milliseconds.
 started() {
     rm -f "$device"
     "$issuer" format "$device" 64000000 0

@@ -1,7 +1,7 @@
 #!/usr/bin/env bash
-# Archives: the queries of docs/ARCHIVE.md on the archive in examples/archive by stock sqlite3, with the results that the page has. The
-# archive that the program makes of a device is that one, row by row; a second run adds nothing, and a copy that lags is taken up where
-# it is. Of each worked script that has a report, the sums by SQL are what `issuer balances` tells. What sqlite3 finds in the files.
+# Archives: what the program makes of a device is the archive in examples/archive, row by row, and the queries there have their results
+# on it by stock sqlite3. A second run adds nothing, and a copy that lags is taken up where it is. Of each worked script that has a
+# report, the sums by SQL are what `issuer balances` tells. What sqlite3 finds in the files.
 
 # Devices are written here: in memory their syncs take no time.
 [ ! -w /dev/shm ] || export TMPDIR=/dev/shm
@@ -16,16 +16,6 @@ if ! command -v sqlite3 >/dev/null || ! command -v python3 >/dev/null; then
     exit 0
 fi
 export PYTHONDONTWRITEBYTECODE=1
-python3 .ci/archive.py page
-
-# asked DB WHAT: each query of the page has its result.
-asked() {
-    local query
-    for query in "$examples"/[0-9]*.sql; do
-        sqlite3 -readonly -header -separator ' | ' "$1" <"$query" | sed 's/ *$//' >"$room/out"
-        wrote "$query, $2" "${query%.sql}.out"
-    done
-}
 
 # rows DB: the two tables.
 rows() {
@@ -43,7 +33,6 @@ archived() {
 }
 
 sqlite3 "$room/example.db" <"$examples/example.sql"
-asked "$room/example.db" 'on the example'
 rows "$room/example.db" >"$room/rows"
 
 [ -x "$archive" ] || make archive >&2
@@ -57,7 +46,10 @@ for run in first second; do
     archived "$room/device" "$room/db" '{"posts":7,"records":13}' "the $run run"
     rows "$room/db" | cmp -s - "$room/rows" || fail "the $run run: it has other rows than the example"
 done
-asked "$room/db" 'on what the program made'
+for query in "$examples"/[0-9]*.sql; do
+    sqlite3 -readonly -header -separator ' | ' "$room/db" <"$query" | sed 's/ *$//' >"$room/out"
+    wrote "$query, on what the program made" "${query%.sql}.out"
+done
 
 # stated DB FILE WORDS..: this statement is what the file holds.
 stated() {

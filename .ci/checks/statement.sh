@@ -1,6 +1,6 @@
 #!/usr/bin/env bash
 # What docs/RECIPES.md has on statements: its commands as they stand there, and what the page refuses.
-. "$(dirname "$0")/../program.sh"
+. "$(dirname "$0")/../check.sh"
 
 for command in python3 jq column; do
     if ! command -v "$command" >/dev/null; then
