@@ -1,5 +1,5 @@
 -- What giving a line to a store comes to, in a run at which the store stands.
-use Rattle.std.specs.Prelude.{◌≡◌, ℕ, ◌+◌, Bool, true, List, [], ◌∷◌, ◌++◌, length, Option, Some, None, Result, IfOk, OnOk, if◌then◌else◌}
+use Rattle.std.specs.Prelude.{◌≡◌, ℕ, ◌+◌, Bool, true, List, [], ◌∷◌, ◌++◌, length, Option, Some, None, unwrap_or, Result, IfOk, OnOk, if◌then◌else◌}
 use Rattle.iss_model.specs.declared.call.CallId.{CallId}
 use Rattle.iss_model.specs.declared.input.Input.{Input}
 use Rattle.iss_model.specs.declared.input.Record.{Record}
@@ -17,7 +17,7 @@ use Rattle.iss_drill.specs.declared.tally.Tally.{Tally}
 use Rattle.iss_drill.specs.Generated.{drawn}
 use Rattle.iss_drill.specs.Setup.{setup_input}
 use Rattle.iss_drill.specs.Events.{event_input}
-use Rattle.iss_drill.specs.Drills.{call_opened, entries_as, tells_repeat, tells_repeat_as, repeats_among, is_approval, is_decline, is_notice_made, rows_with, event_lines}
+use Rattle.iss_drill.specs.Drills.{call_opened, call_opened_in, entries_as, tells_repeat, tells_repeat_as, repeats_among, is_approval, is_decline, is_notice_made, rows_with, event_lines}
 use Rattle.iss_drill.specs.Tallies.{Counts}
 
 -- a store stands at a run: for its records, whose history is the run's, on its device
@@ -78,6 +78,18 @@ TakesInput i at before after store result =
 abbrev pub TellsLeft : {T F : Type 0} → Input → ℕ → Tally → Tally → StoreNow → Result T F → Type 0
 TellsLeft i at before after store result =
     (run : Run) → StandsAtRun store run → OnOk result (TellsAnswer (tells_repeat (judge history_keeper run.history i at)) before after)
+
+-- If the call succeeded, the store was given the input as a line more, whichever lines came before it and however its stamp is told.
+abbrev pub GivesInput : {F : Type 0} → Input → ℕ → Tally → Tally → StoreNow → Result (StoreNow × Option CallId) F → Type 0
+GivesInput i at before after store result =
+    (start : Run) (lines : List Reading) (o : Option ℕ) → unwrap_or o 0 ≡ at → HasGiven start lines before store
+    → IfOk result (λ x. HasGiven start (lines ++ sound i o ∷ []) after x.0)
+
+-- If the call succeeded, it returns the call that the input opens at a stamp, whichever lines came before it.
+abbrev pub OpensCall : {F : Type 0} → Input → ℕ → Tally → StoreNow → Result (StoreNow × Option CallId) F → Type 0
+OpensCall i at before store result =
+    (start : Run) (lines : List Reading) → HasGiven start lines before store
+    → IfOk result (λ x. x.1 ≡ call_opened_in (run_after start lines) i at)
 
 -- If the store was given the first of these lines, and the call succeeded, the store was given the others.
 abbrev pub Gives : {F : Type 0} → Run → List Reading → List Reading → Tally → Tally → StoreNow → Result StoreNow F → Type 0

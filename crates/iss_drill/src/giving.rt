@@ -1,12 +1,11 @@
 //! A line of a drill: it is planned, committed and released as a line that comes in.
-ghost use Rattle.std.specs.Prelude.{◌≡◌, ◌+◌, ◌<◌, ◌^◌, ◌∷◌, ◌++◌, [], ℕ, Bool, List, Option, unwrap_or, IfOk, IfSome, OnOk, IsTrue};
+ghost use Rattle.std.specs.Prelude.{◌≡◌, ◌+◌, ◌<◌, ◌^◌, Bool, Option, IfOk, IfSome, OnOk, IsTrue};
 ghost use Rattle.iss_model.specs.Forms.{is_in_form, is_stamp};
-ghost use Rattle.iss_model.specs.run.Transcripts.{Reading, sound};
-ghost use Rattle.iss_model.specs.run.Runs.{Run, run_after};
+ghost use Rattle.iss_model.specs.run.Runs.{Run};
 ghost use Rattle.iss_store.specs.Planning.{IsPlanOf};
-ghost use Rattle.iss_drill.specs.Drills.{call_opened_in, is_repeat};
+ghost use Rattle.iss_drill.specs.Drills.{is_repeat};
 ghost use Rattle.iss_drill.specs.Tallies.{IsFew};
-ghost use Rattle.iss_drill.specs.Giving.{StandsAtRun, Keeps, TellsAnswer, IsCallNumbered, TakesInput, TellsLeft, HasGiven};
+ghost use Rattle.iss_drill.specs.Giving.{StandsAtRun, Keeps, TellsAnswer, IsCallNumbered, TakesInput, TellsLeft, GivesInput, OpensCall};
 
 use crate::tally::{Tally, call_opened};
 use iss_edge::{Channel, Edge};
@@ -31,10 +30,8 @@ pub(crate) fn give<E: Edge>(
     requires stamp { IsTrue (is_stamp at) }
     requires room { tally.old.lines < 2 ^ 20 }
     requires few { IsFew tally.old.lines tally.old }
-    ensures given { (start : Run) (lines : List Reading) (o : Option ℕ) → unwrap_or o 0 ≡ at → HasGiven start lines tally.old store
-        → IfOk result (λ x. HasGiven start (lines ++ sound input.now o ∷ []) tally.new x.0) }
-    ensures opened { (start : Run) (lines : List Reading) → HasGiven start lines tally.old store
-        → IfOk result (λ x. x.1 ≡ call_opened_in (run_after start lines) input.now at) }
+    ensures given { GivesInput input.now at tally.old tally.new store result }
+    ensures opened { OpensCall input.now at tally.old store result }
     ensures lines { OnOk result (tally.new.lines ≡ tally.old.lines + 1) }
     ensures numbered { IfOk result (λ x. IfSome x.1 IsCallNumbered) }
     ensures few { OnOk result (IsFew (tally.old.lines + 1) tally.new) }

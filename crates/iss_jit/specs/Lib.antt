@@ -1,3 +1,4 @@
 pub mod Echoes
+pub mod Members
 pub mod Outcomes
 pub mod Plain

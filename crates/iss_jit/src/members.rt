@@ -6,6 +6,7 @@ ghost use Rattle.iss_model.specs.Currencies.{currency_code};
 ghost use Rattle.iss_model.specs.Amounts.{amount_text, last_digits};
 ghost use Rattle.iss_model.specs.texts.GatewayTexts.{method_text, token_text, token_members, partial_members};
 ghost use Rattle.iss_model.specs.texts.Wordings.{in_quotes, member_text, with_text, with_number};
+ghost use Rattle.iss_jit.specs.Members.{AddsMember};
 
 use iss_amount::{code, last_digit, put_amount_text, put_decimal};
 use iss_model::{CallId, Currency, Method, Token};
@@ -20,8 +21,7 @@ pub(crate) fn put_amount(
     amount: u64,
     currency: Currency,
 ) -> Result<(), AllocError>
-    ensures { OnOk result (out.new.items ≡ out.old.items
-        ++ (before ∷ member_text (with_text name.now (amount_text (pos amount) currency)))) }
+    ensures { OnOk result (AddsMember before (with_text name.now (amount_text (pos amount) currency)) out.old out.new) }
 {
     put_name(out, before, name)?;
     out.push(b'"')?;
@@ -31,36 +31,31 @@ pub(crate) fn put_amount(
 }
 
 pub(crate) fn put_token(out: &mut Vec<u8>, name: &str, token: &Token) -> Result<(), AllocError>
-    ensures { OnOk result (out.new.items
-        ≡ out.old.items ++ (44 ∷ member_text (with_text name.now token.now))) }
+    ensures { OnOk result (AddsMember 44 (with_text name.now token.now) out.old out.new) }
 {
     put_text(out, name, token.text())
 }
 
 pub(crate) fn put_currency(out: &mut Vec<u8>, currency: Currency) -> Result<(), AllocError>
-    ensures { OnOk result (out.new.items ≡ out.old.items
-        ++ (44 ∷ member_text (with_text (codes "currency") (currency_code currency)))) }
+    ensures { OnOk result (AddsMember 44 (with_text (codes "currency") (currency_code currency)) out.old out.new) }
 {
     put_opened(out, b",\"currency\":\"", &code(currency))
 }
 
 pub(crate) fn put_mcc(out: &mut Vec<u8>, mcc: u16) -> Result<(), AllocError>
-    ensures { OnOk result (out.new.items
-        ≡ out.old.items ++ (44 ∷ member_text (with_text (codes "mcc") (last_digits 4 mcc)))) }
+    ensures { OnOk result (AddsMember 44 (with_text (codes "mcc") (last_digits 4 mcc)) out.old out.new) }
 {
     put_opened(out, b",\"mcc\":\"", &four_digits(mcc))
 }
 
 pub(crate) fn put_method(out: &mut Vec<u8>, method: Method) -> Result<(), AllocError>
-    ensures { OnOk result (out.new.items ≡ out.old.items
-        ++ (44 ∷ member_text (with_text (codes "method") (method_text method)))) }
+    ensures { OnOk result (AddsMember 44 (with_text (codes "method") (method_text method)) out.old out.new) }
 {
     put_opened(out, b",\"method\":\"", method_text(method).as_bytes())
 }
 
 pub(crate) fn put_number(out: &mut Vec<u8>, name: &str, number: u32) -> Result<(), AllocError>
-    ensures { OnOk result (out.new.items
-        ≡ out.old.items ++ (44 ∷ member_text (with_number name.now number))) }
+    ensures { OnOk result (AddsMember 44 (with_number name.now number) out.old out.new) }
 {
     put_name(out, b',', name)?;
     put_decimal(out, u64::from(number))
@@ -81,8 +76,7 @@ pub(crate) fn put_partial(out: &mut Vec<u8>, permitted: bool) -> Result<(), Allo
 /// Adds the token of a call.
 pub(crate) fn put_call(out: &mut Vec<u8>, call: CallId, instance: u64) -> Result<(), AllocError>
     requires { instance < INSTANCES }
-    ensures { OnOk result (out.new.items ≡ out.old.items
-        ++ (44 ∷ member_text (with_text (codes "token") (token_text instance call.0)))) }
+    ensures { OnOk result (AddsMember 44 (with_text (codes "token") (token_text instance call.0)) out.old out.new) }
 {
     let mut buffer = Uuid::encode_buffer();
     let text = call.uuid(instance).hyphenated().encode_lower(&mut buffer);
@@ -116,8 +110,7 @@ fn put_opened(out: &mut Vec<u8>, opening: &[u8], text: &[u8]) -> Result<(), Allo
 }
 
 fn put_text(out: &mut Vec<u8>, name: &str, text: &[u8]) -> Result<(), AllocError>
-    ensures { OnOk result (out.new.items
-        ≡ out.old.items ++ (44 ∷ member_text (with_text name.now text.now))) }
+    ensures { OnOk result (AddsMember 44 (with_text name.now text.now) out.old out.new) }
 {
     put_name(out, b',', name)?;
     put_quoted(out, text)

@@ -1,5 +1,5 @@
 -- Why a database isn't taken for an archive, while the disk is honest.
-use Rattle.std.specs.Prelude.{◌≡◌, ◌≢◌, ◌⊎◌, ◌<◌, ◌^◌, ℕ, pos, Bool, false, List, [], ◌∷◌, filter, Option, Some, None, Result, Ok, Err, IfOk, IfErr, IfSome, IsSomeAnd, OnOk, IsSome, IsTrue}
+use Rattle.std.specs.Prelude.{◌≡◌, ◌≢◌, ◌⊎◌, ◌<◌, ◌^◌, ℕ, ℤ, pos, Bool, false, List, [], ◌∷◌, filter, Option, Some, None, Result, Ok, Err, IfOk, IfErr, IfSome, IsSomeAnd, OnOk, IsSome, IsTrue}
 use Rattle.sqlite_disk.specs.Disk.{MoreFaults}
 use Rattle.sqlite.specs.declared.error.Error.{Error}
 use Rattle.sqlite.specs.declared.error.Error.TheVariants.{SqliteFailure}
@@ -94,6 +94,10 @@ AsksUnlessUnasked result old new = HasCleanDisk new → IsOurs old → FailsUnas
 -- the columns are those of no head
 abbrev pub IsOddHead : HeadColumns → Type 0
 IsOddHead columns = (head : Head) → AreHeadColumnsOf head columns → head.records < 2 ^ 32 → ⊥
+
+-- if the tables are ours and no posting is above this number, they weren't taken only if the database couldn't be asked
+abbrev pub NoneAboveUnlessUnasked : ℤ → Result Bool KeepFault → State → State → Type 0
+NoneAboveUnlessUnasked most result old new = HasCleanDisk new → IsOurs old → HasNoneAbove most old.now.trees → RefusesUnasked result old new
 
 -- if the tables are ours and no posting is above this many, which a column can hold, they weren't taken only if the database couldn't be asked
 abbrev pub CountedUnlessUnasked : ℕ → Result Bool KeepFault → State → State → Type 0

@@ -7,7 +7,7 @@ use Rattle.iss_model.specs.declared.currency.Currency.{Currency}
 use Rattle.iss_archive.specs.declared.post.Head.{Head}
 use Rattle.iss_archive.specs.declared.post.PostRow.{PostRow}
 use Rattle.iss_archive.specs.Archived.{Archived, Adds, Gives, Same, Told, posts_in, rows_of_user}
-use Rattle.iss_tables.specs.Calls.{HasNoneAbove, IsAllAdded}
+use Rattle.iss_tables.specs.Calls.{HasNoneAbove, IsAllAdded, IsOurs}
 use Rattle.iss_tables.specs.Steps.{AddsAll}
 use Rattle.iss_tables.specs.Rows.{columns_of}
 use Rattle.iss_tables.specs.declared.adding.PostColumns.{PostColumns}
@@ -22,6 +22,10 @@ IsArchive trees = HasNoneAbove (pos (posts_in (archived_in trees).head)) trees
 pub record IsKept (s : State) : Type 0 where
   pub autocommit : s.in_transaction ≡ false
   pub archive : HasCleanDisk s → IsTrue s.is_open → IsArchive s.committed.trees
+
+-- a head that was given is the one that the tables had before the call, if they are ours
+abbrev pub GivesHeadBefore : {E : Type 0} → Result (Option Head) E → State → State → Type 0
+GivesHeadBefore result old new = HasCleanDisk new → IsOurs old → IfOk result (λ head. head ≡ (archived_in old.now.trees).head)
 
 -- the same value, or an error for an error
 abbrev pub Tells : {T E F : Type 0} → Result T E → Result T F → Type 0

@@ -7,15 +7,14 @@ ghost use Rattle.iss_model.specs.Currencies.{iso_number};
 ghost use Rattle.sqlite.specs.Held.{state};
 ghost use Rattle.iss_archive.specs.Archived.{is_of_user};
 ghost use Rattle.iss_archive.specs.Statable as statable;
-ghost use Rattle.sqlite.specs.State.{HasCleanDisk};
-ghost use Rattle.iss_tables.specs.Calls.{HasNoneAbove, IsOurs, ReadsHead};
+ghost use Rattle.iss_tables.specs.Calls.{HasNoneAbove, ReadsHead};
 ghost use Rattle.iss_tables.specs.Causes.{DoneAsking};
 ghost use Rattle.iss_tables.specs.Queries.{ShowsPostsOf};
 ghost use Rattle.iss_tables.specs.Rows.{asked_for};
 ghost use Rattle.iss_tables.specs.Steps.{IsHeadRow, head_row};
 ghost use Rattle.iss_sql_keeper.specs.Decoded.{archived_in, head_of, posting_shown};
-ghost use Rattle.iss_sql_keeper.specs.Refused.{AsksUnlessUnasked, HeadUnlessUnasked, IsOddHead, NamesFailure, RefusesUnasked};
-ghost use Rattle.iss_sql_keeper.specs.Shown.{Holds, HoldsPosts, IsKept, LeavesNothingNew, LeavesSame, Stays, Tells, TellsHead, TellsPosts, TellsSame};
+ghost use Rattle.iss_sql_keeper.specs.Refused.{AsksUnlessUnasked, HeadUnlessUnasked, IsOddHead, NamesFailure, NoneAboveUnlessUnasked};
+ghost use Rattle.iss_sql_keeper.specs.Shown.{GivesHeadBefore, Holds, HoldsPosts, IsKept, LeavesNothingNew, LeavesSame, Stays, Tells, TellsHead, TellsPosts, TellsSame};
 
 use crate::reading::{self, postings_of};
 use iss_archive::{Head, KeepFault, PostRow, is_statable};
@@ -77,7 +76,7 @@ pub(crate) fn head_in<S: Alter>(conn: &mut Connection<S>) -> Result<Option<Head>
     ensures stays { Stays (state S.Store conn.old) (state S.Store conn.new) }
     ensures left { LeavesNothingNew (state S.Store conn.old) (state S.Store conn.new) }
     ensures read { IfOk result (λ head. Holds (state S.Store conn.new) (λ trees. head ≡ (archived_in trees).head)) }
-    ensures was { HasCleanDisk (state S.Store conn.new) → IsOurs (state S.Store conn.old) → IfOk result (λ head. head ≡ (archived_in (state S.Store conn.old).now.trees).head) }
+    ensures was { GivesHeadBefore result (state S.Store conn.old) (state S.Store conn.new) }
     ensures done { DoneAsking result (state S.Store conn.old) (state S.Store conn.new) }
     ensures cause { HeadUnlessUnasked result (state S.Store conn.old) (state S.Store conn.new) }
 {
@@ -94,7 +93,7 @@ pub(crate) fn is_none_above<S: Alter>(
     requires { conn.old.in_transaction ≡ false }
     ensures stays { Stays (state S.Store conn.old) (state S.Store conn.new) }
     ensures found { IfOk result (λ none. IsTrue none → Holds (state S.Store conn.new) (HasNoneAbove most.now)) }
-    ensures untaken { HasCleanDisk (state S.Store conn.new) → IsOurs (state S.Store conn.old) → HasNoneAbove most.now (state S.Store conn.old).now.trees → RefusesUnasked result (state S.Store conn.old) (state S.Store conn.new) }
+    ensures untaken { NoneAboveUnlessUnasked most.now result (state S.Store conn.old) (state S.Store conn.new) }
     ensures cause { AsksUnlessUnasked result (state S.Store conn.old) (state S.Store conn.new) }
 {
     if !is_ours(conn.schema()) {

@@ -26,6 +26,10 @@ pub record HasAll (texts : List (List ℕ)) (t : Texts) : Type 0 where
   pub bytes : t.bytes.items ≡ concat texts
   pub ends : t.ends.items ≡ ends_of 0 texts
 
+-- this holds of the texts that are there
+abbrev pub OfTexts : Texts → (List (List ℕ) → Type 0) → Type 0
+OfTexts t P = (texts : List (List ℕ)) → HasAll texts t → P texts
+
 -- the texts that end at these places, the first of which begins here
 abbrev pub cut_at : ℕ → List ℕ → List ℕ → List (List ℕ)
 cut_at start bytes [] = []

@@ -1,10 +1,10 @@
 //! Texts in a row.
-ghost use Rattle.std.specs.Prelude.{◌≡◌, ℕ, ◌<◌, List, [], ◌∷◌, ◌++◌, length, OnOk, OnErr};
+ghost use Rattle.std.specs.Prelude.{◌≡◌, ◌<◌, [], ◌∷◌, ◌++◌, length, OnOk, OnErr};
 ghost use Rattle.std.specs.List.{flat_map};
 ghost use Rattle.iss_model.specs.texts.AnswerLines.{answer_text, time_line};
 ghost use Rattle.iss_model.specs.run.Sayings.{asked, noticed};
 ghost use Rattle.iss_event.specs.FormLines.{form_text};
-ghost use Rattle.iss_texts.specs.TextRows.{Gains, HasNone, HasAll, AreEnds, said_texts, entry_texts_at};
+ghost use Rattle.iss_texts.specs.TextRows.{Gains, HasNone, OfTexts, AreEnds, said_texts, entry_texts_at};
 ghost use Rattle.iss_texts.specs.Sending.{Says, SaysSome, SentEach, StopsAt, IsSending};
 ghost use Rattle.iss_edge.specs.Outer.{ToldBoth};
 ghost use Rattle.iss_edge.specs.World.{Told};
@@ -124,12 +124,10 @@ impl Texts {
     #[tactic(auto, using(crate::proofs::ToldSaying::all_told, crate::proofs::ToldSaying::some_told, crate::proofs::ToldSaying::all_sent_told, crate::proofs::ToldSaying::stops_told))]
     pub fn send<E: Edge>(&self, edge: &mut E) -> Result<(), Failed>
         requires ends { AreEnds 0 (length self.now.bytes.items) self.now.ends.items }
-        ensures told { (texts : List (List ℕ)) → HasAll texts self.now → OnOk result (Told (Says texts) (E.told edge.old) (E.told edge.new)) }
-        ensures part { (texts : List (List ℕ)) → HasAll texts self.now → OnErr result (Told (SaysSome texts) (E.told edge.old) (E.told edge.new)) }
-        ensures sent { (texts : List (List ℕ)) → HasAll texts self.now
-            → OnOk result (ToldBoth E.told E.heard (SentEach texts) edge.old edge.new) }
-        ensures stopped { (texts : List (List ℕ)) → HasAll texts self.now
-            → OnErr result (ToldBoth E.told E.heard (StopsAt texts) edge.old edge.new) }
+        ensures told { OfTexts self.now (λ texts. OnOk result (Told (Says texts) (E.told edge.old) (E.told edge.new))) }
+        ensures part { OfTexts self.now (λ texts. OnErr result (Told (SaysSome texts) (E.told edge.old) (E.told edge.new))) }
+        ensures sent { OfTexts self.now (λ texts. OnOk result (ToldBoth E.told E.heard (SentEach texts) edge.old edge.new)) }
+        ensures stopped { OfTexts self.now (λ texts. OnErr result (ToldBoth E.told E.heard (StopsAt texts) edge.old edge.new)) }
         ensures sending { IsSending (E.faults edge.old) (E.faults edge.new) result }
         ensures kept { E.extent edge.new ≡ E.extent edge.old }
         ensures channels { E.channels edge.new ≡ E.channels edge.old }

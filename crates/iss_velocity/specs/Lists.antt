@@ -30,3 +30,7 @@ pub record IsSplit (counters : List Counter) (next place : ℕ) : Type 0 where
 pub record AreReady (controls : List Standing) (groups : List Group) (row : UsageRow) (old : List Counter) (past : Past) (counters : List Counter) (end : ℕ) : Type 0 where
   pub ready : (place : ℕ) (s : Standing) → nat_le (place + 1) end ≡ true → slice_get controls place ≡ Some s → counts groups (put_of s) row ≡ true
       → at_place place counters ≡ Some (record { place = place; number = span_number s row; used = used_at_place old past row.user place (span_number s row) })
+
+-- each control that counts a row has such a counter
+abbrev pub AreAllReady : List Standing → List Group → UsageRow → List Counter → Past → List Counter → Type 0
+AreAllReady controls groups row old past counters = AreReady controls groups row old past counters (length controls)

@@ -1,5 +1,5 @@
 -- What the sums of controls are: sums over the rows that were noted.
-use Rattle.std.specs.Prelude.{◌≡◌, ℕ, nat_le, ℤ, pos, ◌+ℤ◌, Bool, List, [], ◌∷◌, ◌++◌, fold, map, slice_get, Some}
+use Rattle.std.specs.Prelude.{◌≡◌, ℕ, nat_le, true, ℤ, pos, ◌+ℤ◌, Bool, List, [], ◌∷◌, ◌++◌, fold, map, slice_get, Some}
 use Rattle.std.specs.List.{list_all}
 use Rattle.std.specs.Cmp.Lexicographic.{slice_cmp}
 use Rattle.std.specs.Ordering.{nat_cmp, int_cmp, ordering_then}
@@ -8,7 +8,7 @@ use Rattle.iss_model.specs.declared.txn.UsageRow.{UsageRow}
 use Rattle.iss_model.specs.Sums.{changed_at}
 use Rattle.iss_model.specs.rules.Controls.{Group, ControlPut, counted_changes, counter_key}
 use Rattle.iss_model.specs.state.Kept.{kept_at}
-use Rattle.iss_model.specs.state.Cores.{ControlKept, control_after_use}
+use Rattle.iss_model.specs.state.Cores.{ControlKept, control_after_use, with_control}
 
 -- a row that was noted, with the groups that it was noted with
 pub record Noted : Type 0 where
@@ -45,6 +45,14 @@ controls_after_use groups row controls = map (control_after_use groups (entry.Us
 -- if controls' sums are those over the rows that were noted, so are other controls'
 abbrev pub StaySums : List Noted → List ControlKept → List ControlKept → Type 0
 StaySums noted before after = AreSumsOf noted before → AreSumsOf noted after
+
+-- whatever was noted, controls' sums stay those over it if each control changes so
+abbrev pub StayUnder : (ControlKept → ControlKept) → Type 0
+StayUnder change = (noted : List Noted) (controls : List ControlKept) → StaySums noted controls (map change controls)
+
+-- controls' sums stay those over the rows that were noted if a control is put, with a number that isn't below their origins
+abbrev pub CountsNoEarlier : List Noted → List ControlKept → ControlPut → Type 0
+CountsNoEarlier noted controls put = AreSumsOf noted controls → are_not_later put.number noted ≡ true → AreSumsOf noted (with_control controls put)
 
 -- the keys of two counters sort by the bytes of the users, then by the numbers of the spans
 abbrev pub SortsByUser : List ℕ → List ℕ → ℤ → ℤ → Type 0

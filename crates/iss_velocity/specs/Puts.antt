@@ -23,6 +23,14 @@ put_reason (Some c) controls put =
     first_reason ((not (is_same_control c.control put.currency put.window put.association put.scope put.offset), reason.ControlFixed) ∷ [])
 put_reason None controls put = first_reason ((is_full controls, reason.Limit) ∷ [])
 
+-- why a control that is put among these is refused
+abbrev pub reason_among : List ControlKept → Control → Option Reason
+reason_among controls put = put_reason (kept_named put.name controls) controls put
+
+-- a control that stands has all of another that may not change
+abbrev pub is_fixed_as : Control → Control → Bool
+is_fixed_as standing put = is_same_control standing put.currency put.window put.association put.scope put.offset
+
 -- the control of this name among those that stand
 abbrev pub standing_named : List ℕ → List Standing → Option Standing
 standing_named name controls = find (λ s. bytes_eq s.control.name name) controls

@@ -44,6 +44,15 @@ kept_after_restore name user number used k =
     record k { amounts = finite.insert k.amounts key used.amount; times = finite.insert k.times key used.count }
     else k
 
+-- the controls after the one of this name took up a counter
+abbrev pub controls_restored : List ℕ → List ℕ → ℤ → Used → List ControlKept → List ControlKept
+controls_restored name user number used controls = map (kept_after_restore name user number used) controls
+
+-- a row of a control that stands, as it is shown
+abbrev pub counted_row : Standing → List ℕ → ℤ → Used → Counted
+counted_row s user number used =
+    record { control = s.control.name; user = user; window = s.control.window; number = number; used = used }
+
 -- there is this control, and it has no counter of this user and number
 abbrev pub may_restore : List ℕ → ℤ → Option ControlKept → Bool
 may_restore user number None = false

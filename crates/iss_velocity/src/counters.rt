@@ -1,10 +1,10 @@
 //! A user's counters.
-ghost use Rattle.std.specs.Prelude.{◌≡◌, ◌+◌, ◌+ℤ◌, ◌==◌, ℕ, true, false, IsTrue, [], length, map, OnOk, OnErr, IfOk};
+ghost use Rattle.std.specs.Prelude.{◌≡◌, ◌+◌, ◌+ℤ◌, ◌==◌, ℕ, true, false, IsTrue, [], map, OnOk, OnErr, IfOk};
 ghost use Rattle.std.specs.Option.{option_copied};
 ghost use Rattle.iss_model.specs.Forms.{is_stamp};
 ghost use Rattle.iss_model.specs.state.Kept.{IsSmall};
 ghost use Rattle.iss_velocity.specs.Counting.{at_place, in_span, or_else, past_at, used_more, counter_then};
-ghost use Rattle.iss_velocity.specs.Lists.{rising_from, IsSplit, AreReady};
+ghost use Rattle.iss_velocity.specs.Lists.{rising_from, IsSplit, AreAllReady};
 ghost use Rattle.iss_velocity.specs.Keeping.{has_no_zero, IsSmallUse, StaySmall, FitsMore, FitMore, StaysSame, IsKeptPast, IsTurned, IsReady, IsCounted};
 
 use crate::past::{Past, past_used};
@@ -208,7 +208,7 @@ fn prepare(
     requires plain { has_no_zero row.now.user ≡ true }
     requires rising { rising_from 0 list.old.items ≡ true }
     ensures rising { rising_from 0 list.new.items ≡ true }
-    ensures ready { OnOk result (AreReady controls.now groups.now row.now list.old.items past.old list.new.items (length controls.now)) }
+    ensures ready { OnOk result (AreAllReady controls.now groups.now row.now list.old.items past.old list.new.items) }
     ensures same { StaysSame row.now.user list.old.items past.old list.new.items past.new }
 {
     let spans = Spans::new(row.at, row.origin);

@@ -5,7 +5,7 @@ ghost use Rattle.std.specs.BTreeMap as tree;
 ghost use Rattle.iss_velocity.specs.Lists.{rising_from};
 ghost use Rattle.iss_velocity.specs.Counting.{by_name, past_at, in_span, at_place, counters_at};
 ghost use Rattle.iss_velocity.specs.Keeping.{has_no_zero, AreKeyed};
-ghost use Rattle.iss_velocity.specs.Showing.{by_row, counted_entry, row_entry, one_row, rows_of_user, AreAdded, AreRowsOf};
+ghost use Rattle.iss_velocity.specs.Showing.{by_row, counted_entry, counted_row, row_entry, one_row, rows_of_user, AreAdded, AreRowsOf};
 
 use crate::counted::Counted;
 use crate::counters::{Counter, Counters};
@@ -59,7 +59,7 @@ pub(crate) fn shown(
 /// A row as it is shown.
 #[tactic(auto, using(crate::proofs::KeyOrder::token_plain))]
 fn row_shown(standing: &Standing, user: &Token, number: i64, used: &Used) -> Counted
-    ensures value { result ≡ record { control = standing.now.control.name; user = user.now; window = standing.now.control.window; number = number; used = used.now } }
+    ensures value { result ≡ counted_row standing.now user.now number used.now }
     ensures named { has_no_zero result.user ≡ true }
 {
     // A name has no byte 0, so a key tells where it ends.

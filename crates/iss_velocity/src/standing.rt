@@ -6,7 +6,7 @@ ghost use Rattle.iss_model.specs.rules.Reasons.{is_same_control};
 ghost use Rattle.iss_model.specs.Inputs.{association_contents, scope_contents};
 ghost use Rattle.iss_model.specs.rules.Asks.{passes};
 ghost use Rattle.iss_velocity.specs.Counting.{put_of, passes_with};
-ghost use Rattle.iss_velocity.specs.Puts.{standing_after_change};
+ghost use Rattle.iss_velocity.specs.Puts.{is_fixed_as, standing_after_change};
 
 use iss_model::{Association, Control, Numbered, Scope, Token, UsageRow, Used};
 use iss_scope::{Groups, covers};
@@ -85,7 +85,7 @@ impl Standing {
 
     /// Whether another control has all that may not change of this one.
     pub(crate) fn is_fixed_as(&self, other: &Control) -> bool
-        ensures { result ≡ is_same_control self.now.control other.now.currency other.now.window other.now.association other.now.scope other.now.offset }
+        ensures { result ≡ is_fixed_as self.now.control other.now }
     {
         is_same_control(&self.control, other)
     }
@@ -93,7 +93,7 @@ impl Standing {
 
 /// Whether two controls are the same in what may not change: the currency, the window, the association, the scope and the offset.
 pub fn is_same_control(standing: &Control, put: &Control) -> bool
-    ensures { result ≡ is_same_control standing.now put.now.currency put.now.window put.now.association put.now.scope put.now.offset }
+    ensures { result ≡ is_fixed_as standing.now put.now }
 {
     standing.currency.number() == put.currency.number()
         && standing.window.number() == put.window.number()

@@ -5,16 +5,16 @@ ghost use Rattle.std.specs.Str.{bytes_eq};
 ghost use Rattle.std.specs.Option.{option_copied};
 ghost use Rattle.std.specs.BTreeMap as tree;
 ghost use Rattle.iss_model.specs.Forms.{is_stamp};
-ghost use Rattle.iss_model.specs.declared.entry.Entry.TheVariants as entry;
-ghost use Rattle.iss_model.specs.state.Cores.{control_facts, control_after_use, with_control};
+ghost use Rattle.iss_model.specs.state.Cores.{control_facts, with_control};
 ghost use Rattle.iss_model.specs.rules.Asks.{used_by};
 ghost use Rattle.iss_model.specs.rules.Reasons.{is_full};
 ghost use Rattle.iss_velocity.specs.Words.{breach_of, used_of};
-ghost use Rattle.iss_velocity.specs.Puts.{first_put, kept_named, put_reason, control_result_reason, kept_after_change, standing_named, standing_after_change};
+ghost use Rattle.iss_velocity.specs.Puts.{first_put, kept_named, put_reason, reason_among, control_result_reason, kept_after_change, standing_named, standing_after_change};
 ghost use Rattle.iss_velocity.specs.Lists.{rising_from};
 ghost use Rattle.iss_velocity.specs.Counting.{counters_at, by_name};
 ghost use Rattle.iss_velocity.specs.Keeping.{has_no_zero, used_on, controls_in, IsTable, HaveSmallSums, is_users_plain};
-ghost use Rattle.iss_velocity.specs.Showing.{counted_entry, entries_of_control, kept_after_restore, may_restore};
+ghost use Rattle.iss_velocity.specs.Showing.{counted_entry, entries_of_control, controls_restored, may_restore};
+ghost use Rattle.iss_velocity.specs.Noted.{controls_after_use};
 
 use crate::controls::ControlFault;
 use crate::counted::Counted;
@@ -47,9 +47,9 @@ impl Table {
     ) -> Result<(), AllocError>
         requires stamp { IsTrue (is_stamp row.now.at) }
         requires keyed { IsTable self.old }
-        requires small { HaveSmallSums (map (control_after_use groups.now (entry.Usage row.now)) (controls_in self.old)) }
+        requires small { HaveSmallSums (controls_after_use groups.now row.now (controls_in self.old)) }
         ensures keyed { IsTable self.new }
-        ensures noted { OnOk result (controls_in self.new ≡ map (control_after_use groups.now (entry.Usage row.now)) (controls_in self.old)) }
+        ensures noted { OnOk result (controls_in self.new ≡ controls_after_use groups.now row.now (controls_in self.old)) }
         ensures refused { OnErr result (controls_in self.new ≡ controls_in self.old) }
     {
         if self.controls.is_empty() {
@@ -146,7 +146,7 @@ impl Table {
         requires keyed { IsTable self.old }
         requires new { may_restore user.now number (kept_named name.now (controls_in self.old)) ≡ true }
         ensures keyed { IsTable self.new }
-        ensures restored { OnOk result (controls_in self.new ≡ map (kept_after_restore name.now user.now number used) (controls_in self.old)) }
+        ensures restored { OnOk result (controls_in self.new ≡ controls_restored name.now user.now number used (controls_in self.old)) }
         ensures refused { OnErr result (controls_in self.new ≡ controls_in self.old) }
     {
         let Some(place) = place_of(&self.controls, name) else {
@@ -171,7 +171,7 @@ impl Table {
         ensures keyed { IsTable self.new }
         ensures put { OnOk result (controls_in self.new ≡ with_control (controls_in self.old) (first_put number control.now)) }
         ensures refused { OnErr result (controls_in self.new ≡ controls_in self.old) }
-        ensures reason { control_result_reason result ≡ put_reason (kept_named control.now.name (controls_in self.old)) (controls_in self.old) control.now }
+        ensures reason { control_result_reason result ≡ reason_among (controls_in self.old) control.now }
     {
         let Some(standing) = self.standing(&control.name) else {
             return self.add(number, control);
