@@ -56,7 +56,7 @@ above (suc n) = grind (arith, nat_tests)
 
 pub plain : (text : List ℕ) → list_all (λ b. nat_lt 0 b) text ≡ has_no_zero text
 plain [] = refl
-pub plain (b ∷ bs) = ap₂ (λ (x y : Bool). x && y) (above b) (plain bs)
+plain (b ∷ bs) = ap₂ (λ (x y : Bool). x && y) (above b) (plain bs)
 
 first_again : (text rest : List ℕ) → has_no_zero text ≡ true → first_token (text ++ 0 ∷ rest) ≡ text
 first_again [] rest h = refl
