@@ -1,19 +1,10 @@
 # What a check of the sources begins with: a folder for made-up sources, which its bar must refuse each time.
-set -eu -o pipefail
-cd "$(dirname "${BASH_SOURCE[0]}")/.."
+. "$(dirname "${BASH_SOURCE[0]}")/check.sh"
 
 if ! command -v python3 >/dev/null; then
     echo 'Without python3 this bar is not looked at.'
     exit 0
 fi
-
-room=$(mktemp -d)
-trap 'rm -rf "$room"' EXIT
-
-fail() {
-    echo "$0: $*" >&2
-    exit 1
-}
 
 # bar NAME WORDS..: runs the script of that name in .ci.
 bar() {
