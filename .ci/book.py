@@ -1,7 +1,8 @@
 #!/usr/bin/env python3
 """Writes the auditor's book of a clause: all definitions that it cites, directly or not, as a page of Markdown in build/book.
 
-`book.py CLAUSE` takes a clause of `run`, `book.py CLAUSE.FIELD` a field of its record, and `book.py CALL.CLAUSE` a clause of any public call.
+`book.py CLAUSE` takes a clause of `run`, `book.py CLAUSE.FIELD` a field of its record, `book.py CALL.CLAUSE` a clause of any public call, and
+`book.py CALL` all clauses of another call.
 A word that may be either is a field. Without a word all clauses of `run` are taken.
 """
 
@@ -108,7 +109,8 @@ def kit_part(pages):
 
 def clause_part(call, clause, members):
     """Returns the first part of the page: the clause, and what of the outside it names."""
-    out = [f"# `{clause.name}` of `{call.title()}`", "", f"`{call.path.relative_to(ROOT)}`. {clause.comment}", "", *code(dedent(clause.text).splitlines())]
+    named = f"`{clause.name}` of " if clause.name else ""
+    out = [f"# {named}`{call.title()}`", "", f"`{call.path.relative_to(ROOT)}`. {clause.comment}", "", *code(dedent(clause.text).splitlines())]
     for trait, sentences, line in members:
         out += [f"A member of the trait `{trait.name}`: {prose(sentences, '///')}", "", *code([line])]
     return out
@@ -127,7 +129,7 @@ def write_book(sources, call, clause):
     for trait, _, line in members:
         walk.follow(trait.name, line, *imports_of(trait.path.read_text().splitlines()), {})
     pages = walk.pages
-    write_page(sources, pages, clause_part(call, clause, members), f"{call.title().replace('::', '_')}.{clause.name}")
+    write_page(sources, pages, clause_part(call, clause, members), ".".join([call.title().replace("::", "_"), clause.name]).rstrip("."))
     return pages.missing
 
 
@@ -186,10 +188,8 @@ def write_field(sources, call, clause, name, definition, lines):
     return walk.pages.missing
 
 
-def clauses_wanted(word):
-    """Returns the clauses that a word names, each with its call: of `run` if it names no call, and all of them without a word."""
-    call_name, _, clause_name = word.rpartition(".")
-    call_name = call_name or "run"
+def clauses_of(call_name, clause_name):
+    """Returns the clauses of this name of the calls of that name, each with its call; all of their clauses without a name."""
     crates = ["iss_top"] if call_name == "run" else crate_order()
     calls = [call for crate in crates for call in calls_of(crate) if is_exported(call, exported_names(crate))]
     return [
@@ -199,6 +199,13 @@ def clauses_wanted(word):
         for clause in call.clauses
         if clause_name in ("", clause.name) and clause.kind == "ensures"
     ]
+
+
+def clauses_wanted(word):
+    """Returns the clauses that a word names, each with its call: of `run` if it names no call, all of them without a word, and else those of
+    the call that the word names."""
+    call_name, _, clause_name = word.rpartition(".")
+    return clauses_of(call_name or "run", clause_name) or clauses_of(word, "")
 
 
 def main(words):

@@ -10,5 +10,6 @@ if ! command -v python3 >/dev/null; then
 fi
 python3 .ci/book.py
 python3 .ci/book.py replay.moments
+python3 .ci/book.py programs_keep_what_they_told
 python3 .ci/clauses.py >build/clauses.md
 grep -q '^| `run` | `status`' build/clauses.md
