@@ -98,23 +98,35 @@ ack,,a2,3820,,2
 END
 wrote 'the history of a purchase' "$room/told"
 
-# By the commands of the page: four purchases have ended, and a fifth hasn't.
+# By the commands of the page: four purchases have ended, and two haven't, of which one was approved in part.
 cat >"$room/page/example.jsonl" examples/scripts/a_day_of_a_gateway_product.jsonl - <<'END'
 {"type":"authorization","token":"a5","card":"c1","currency":"USD","amount":"1.00","mcc":"5411","mid":"m1"}
 {"type":"answer","call":6,"outcome":"FUNDED"}
+{"type":"authorization","token":"a6","card":"c1","currency":"USD","amount":"1.00","mcc":"5411","mid":"m1","partial":true}
+{"type":"answer","call":7,"outcome":"PARTIAL","currency":"USD","amount":"0.40"}
 END
 issue dry <"$room/page/example.jsonl" >"$room/page/example.replies"
-ended 'a live purchase' 0 ''
-awk '/^## / { is_ours = /^## Who holds/ } /^```/ { inside = !inside; next } inside && is_ours' docs/RECIPES.md | sed 1d >"$room/page/commands"
+ended 'two live purchases' 0 ''
+rm "$room/page/example.device"
+issue format "$room/page/example.device" 1048576 0
+issue replay "$room/page/example.device" <"$room/page/example.jsonl" >/dev/null
+ended 'two live purchases, replayed' 0 ''
+awk '/^## / { is_ours = /^## Who holds/ } /^```/ { inside = !inside; next } inside && is_ours' docs/RECIPES.md >"$room/page/commands"
 (cd "$room/page" && bash -eu -o pipefail commands) | sed 's/.*"event":"\([^"]*\)".*"reply":"\([a-z]*\)".*/\1 \2/' >"$room/out"
 cat >"$room/told" <<'END'
+{"account":"user","balance":"1.40","currency":"USD","held":"1.40","user":"u1"}
 live-6 declined
 live-9 declined
 live-14 declined
 live-18 declined
 live-21 done
+live-23 done
 END
 wrote 'the purchases that are live' "$room/told"
+python3 "$tables" "$room/page/example.jsonl" "$room/page/example.replies" \
+    "select sum(minor) as held from records where type = 'authorization' and record in (21, 23)" >"$room/out"
+printf 'held\n140\n' >"$room/told"
+wrote 'what the live purchases hold' "$room/told"
 
 # used FILE: how many bytes of a new device the records of these lines take.
 used() {
