@@ -4,7 +4,7 @@
 
 # Devices are written here: in memory their syncs take no time.
 [ ! -w /dev/shm ] || export TMPDIR=/dev/shm
-. "$(dirname "$0")/../program.sh"
+. "$(dirname "$0")/../serving.sh"
 
 if ! command -v python3 >/dev/null; then
     echo "$0: no python3 here: the recipes are left out"
@@ -81,6 +81,28 @@ with open(f"{sys.argv[1]}/example.csv") as file:
 sys.exit([["" if value is None else str(value) for value in row] for row in rows] != lines)
 END
 
+# A device that is removed while it is served: before that the page's alarm says nothing, and after it the page's commands save it.
+awk '/^## / { is_ours = /^## A device that was removed/ } /^```/ { inside = !inside; next } inside && is_ours' docs/RECIPES.md >"$room/page/removed"
+alarm() {
+    (cd "$room/page" && issuer=$server bash <(head -n 2 removed))
+}
+device=$room/page/example.device
+serve
+listening "$port" 'what serves'
+[ -z "$(alarm)" ] || fail "an alarm of a device that is there: $(alarm)"
+rm "$device"
+line='{"type":"user","token":"late","user":"late"}'
+exec {peer}<>"/dev/tcp/127.0.0.1/$port"
+printf 'POST /events HTTP/1.1\r\nContent-Length: %d\r\n\r\n%s' "${#line}" "$line" >&"$peer"
+timeout 20 cat <&"$peer" >"$room/out"
+exec {peer}>&-
+grep -q '{"event":"late","reply":"done"}' "$room/out" || fail "a device that was removed: told '$(cat "$room/out")'"
+[ "$(alarm)" = 'example.device is not the file that is served' ] || fail "a device that was removed: the alarm says '$(alarm)'"
+(cd "$room/page" && issuer=$server bash -eu <(tail -n +3 removed)) >"$room/out" 2>"$room/said" || fail "docs/RECIPES.md: it said '$(cat "$room/said")'"
+{ wait "$server"; } 2>/dev/null || true
+server=
+python3 "$reader" "$room/page/saved.device" | grep -q '"token":"late"' || fail 'a device that was saved: it has not what came last'
+
 # A gateway's answer and acknowledgement, a clearing and a refund are about their purchase and its user too.
 cat >"$room/in" examples/scripts/a_day_of_a_gateway_product.jsonl - <<<'{"type":"ack","notice":2}'
 issue dry <"$room/in" >"$room/replies"
@@ -107,7 +129,6 @@ cat >"$room/page/example.jsonl" examples/scripts/a_day_of_a_gateway_product.json
 END
 issue dry <"$room/page/example.jsonl" >"$room/page/example.replies"
 ended 'two live purchases' 0 ''
-rm "$room/page/example.device"
 issue format "$room/page/example.device" 1048576 0
 issue replay "$room/page/example.device" <"$room/page/example.jsonl" >/dev/null
 ended 'two live purchases, replayed' 0 ''
