@@ -88,6 +88,7 @@ alarm() {
 }
 device=$room/page/example.device
 serve
+disown "$server"
 listening "$port" 'what serves'
 [ -z "$(alarm)" ] || fail "an alarm of a device that is there: $(alarm)"
 rm "$device"
@@ -99,7 +100,6 @@ exec {peer}>&-
 grep -q '{"event":"late","reply":"done"}' "$room/out" || fail "a device that was removed: told '$(cat "$room/out")'"
 [ "$(alarm)" = 'example.device is not the file that is served' ] || fail "a device that was removed: the alarm says '$(alarm)'"
 (cd "$room/page" && issuer=$server bash -eu <(tail -n +3 removed)) >"$room/out" 2>"$room/said" || fail "docs/RECIPES.md: it said '$(cat "$room/said")'"
-{ wait "$server"; } 2>/dev/null || true
 server=
 python3 "$reader" "$room/page/saved.device" | grep -q '"token":"late"' || fail 'a device that was saved: it has not what came last'
 
