@@ -11,7 +11,7 @@ import sys
 
 PAGE = pathlib.Path('docs/ARCHIVE.md')
 STATEMENT = pathlib.Path('examples/archive/statement.jsonl')
-START = '## Ten queries\n'
+START = '## Queries\n'
 NUMBERS = {'USD': (840, 2), 'EUR': (978, 2), 'GBP': (826, 2), 'CAD': (124, 2), 'AUD': (36, 2), 'JPY': (392, 0), 'KWD': (414, 3)}
 
 

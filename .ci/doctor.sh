@@ -54,6 +54,8 @@ useful sqlite3 "$(command -v sqlite3 || true)" 'reads archives of postings, and 
 useful gcc "$(command -v gcc || true)" 'compiles what make bench compares with, the gateway and clients of the checks, and the disk that forgets'
 useful curl "$(command -v curl || true)" 'posts the lines of docs/SERVING.md, as the checks of serving do'
 useful python3 "$(command -v python3 || true)" 'runs the gateways and clients of the documents and the disk that forgets, and makes the book and the table of clauses'
+useful jq "$(command -v jq || true)" 'makes tables of statements, as docs/RECIPES.md shows'
+useful column "$(command -v column || true)" 'lays those tables out'
 useful node "$(command -v node || true)" 'runs the example gateway and client in JavaScript'
 useful nginx "$(command -v nginx || true)" 'takes the files of examples/nginx'
 useful systemd "$(command -v systemd-analyze || true)" 'takes the file of examples/systemd'

@@ -104,7 +104,8 @@ answers_well() {
     cp "$store" "$room/whole"
     printf 'funded {"amount"' >>"$store"
     funds "$@"
-    cmp -s "$store" "$room/whole" || fail "$2: after a kill its store isn't what it answered"
+    # It takes its port first, and then mends its store.
+    awaited "$2: after a kill its store isn't what it answered" cmp -s "$store" "$room/whole"
     what_lasts
     stopped
     cmp -s "$store" "$room/whole" || fail "$2: what came again is in its store twice"
@@ -161,6 +162,15 @@ LINES
     status=0
     timeout 20 "$@" "127.0.0.1:$port/events" <<<a 2>"$room/said" || status=$?
     ended "$2" 1 "${2##*/}: no URL of http or https: 127.0.0.1:$port/events"
+    # Nobody listens: it says so, and tries on.
+    rm "$room/said"
+    "$@" "http://127.0.0.1:$port/events" <<<a >"$room/out" 2>"$room/said" &
+    server=$!
+    awaited "$2, while nobody listens" test -s "$room/said"
+    status=0
+    kill -0 "$server" || status=$?
+    killed
+    ended "$2, while nobody listens" 0 "${2##*/}: http://127.0.0.1:$port/events: nobody listens, and it tries on"
 }
 
 # reconciled STATUS BALANCE COUNT: the store of those answers, beside a report of the issuer.

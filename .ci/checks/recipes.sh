@@ -4,7 +4,7 @@
 
 # Devices are written here: in memory their syncs take no time.
 [ ! -w /dev/shm ] || export TMPDIR=/dev/shm
-. "$(dirname "$0")/../program.sh"
+. "$(dirname "$0")/../serving.sh"
 
 if ! command -v python3 >/dev/null; then
     echo "$0: no python3 here: the recipes are left out"
@@ -81,6 +81,28 @@ with open(f"{sys.argv[1]}/example.csv") as file:
 sys.exit([["" if value is None else str(value) for value in row] for row in rows] != lines)
 END
 
+# A device that is removed while it is served: before that the page's alarm says nothing, and after it the page's commands save it.
+awk '/^## / { is_ours = /^## A device that was removed/ } /^```/ { inside = !inside; next } inside && is_ours' docs/RECIPES.md >"$room/page/removed"
+alarm() {
+    (cd "$room/page" && issuer=$server bash <(head -n 2 removed))
+}
+device=$room/page/example.device
+serve
+disown "$server"
+listening "$port" 'what serves'
+[ -z "$(alarm)" ] || fail "an alarm of a device that is there: $(alarm)"
+rm "$device"
+line='{"type":"user","token":"late","user":"late"}'
+exec {peer}<>"/dev/tcp/127.0.0.1/$port"
+printf 'POST /events HTTP/1.1\r\nContent-Length: %d\r\n\r\n%s' "${#line}" "$line" >&"$peer"
+timeout 20 cat <&"$peer" >"$room/out"
+exec {peer}>&-
+grep -q '{"event":"late","reply":"done"}' "$room/out" || fail "a device that was removed: told '$(cat "$room/out")'"
+[ "$(alarm)" = 'example.device is not the file that is served' ] || fail "a device that was removed: the alarm says '$(alarm)'"
+(cd "$room/page" && issuer=$server bash -eu <(tail -n +3 removed)) >"$room/out" 2>"$room/said" || fail "docs/RECIPES.md: it said '$(cat "$room/said")'"
+server=
+python3 "$reader" "$room/page/saved.device" | grep -q '"token":"late"' || fail 'a device that was saved: it has not what came last'
+
 # A gateway's answer and acknowledgement, a clearing and a refund are about their purchase and its user too.
 cat >"$room/in" examples/scripts/a_day_of_a_gateway_product.jsonl - <<<'{"type":"ack","notice":2}'
 issue dry <"$room/in" >"$room/replies"
@@ -98,23 +120,34 @@ ack,,a2,3820,,2
 END
 wrote 'the history of a purchase' "$room/told"
 
-# By the commands of the page: four purchases have ended, and a fifth hasn't.
+# By the commands of the page: four purchases have ended, and two haven't, of which one was approved in part.
 cat >"$room/page/example.jsonl" examples/scripts/a_day_of_a_gateway_product.jsonl - <<'END'
 {"type":"authorization","token":"a5","card":"c1","currency":"USD","amount":"1.00","mcc":"5411","mid":"m1"}
 {"type":"answer","call":6,"outcome":"FUNDED"}
+{"type":"authorization","token":"a6","card":"c1","currency":"USD","amount":"1.00","mcc":"5411","mid":"m1","partial":true}
+{"type":"answer","call":7,"outcome":"PARTIAL","currency":"USD","amount":"0.40"}
 END
 issue dry <"$room/page/example.jsonl" >"$room/page/example.replies"
-ended 'a live purchase' 0 ''
-awk '/^## / { is_ours = /^## Who holds/ } /^```/ { inside = !inside; next } inside && is_ours' docs/RECIPES.md | sed 1d >"$room/page/commands"
+ended 'two live purchases' 0 ''
+issue format "$room/page/example.device" 1048576 0
+issue replay "$room/page/example.device" <"$room/page/example.jsonl" >/dev/null
+ended 'two live purchases, replayed' 0 ''
+awk '/^## / { is_ours = /^## Who holds/ } /^```/ { inside = !inside; next } inside && is_ours' docs/RECIPES.md >"$room/page/commands"
 (cd "$room/page" && bash -eu -o pipefail commands) | sed 's/.*"event":"\([^"]*\)".*"reply":"\([a-z]*\)".*/\1 \2/' >"$room/out"
 cat >"$room/told" <<'END'
+{"account":"user","balance":"1.40","currency":"USD","held":"1.40","user":"u1"}
 live-6 declined
 live-9 declined
 live-14 declined
 live-18 declined
 live-21 done
+live-23 done
 END
 wrote 'the purchases that are live' "$room/told"
+python3 "$tables" "$room/page/example.jsonl" "$room/page/example.replies" \
+    "select sum(minor) as held from records where type = 'authorization' and record in (21, 23)" >"$room/out"
+printf 'held\n140\n' >"$room/told"
+wrote 'what the live purchases hold' "$room/told"
 
 # used FILE: how many bytes of a new device the records of these lines take.
 used() {

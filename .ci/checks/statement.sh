@@ -26,7 +26,7 @@ opening                              0.00
 1970-01-02T01:01:01Z  network    a1  -60.00
 1970-01-03T00:00:00Z  network    a2  -19.90
 1970-01-04T00:00:00Z  network    a2  19.90
-1970-01-04T01:01:01Z  gateway        25.00
+1970-01-04T01:01:01Z  gateway    a3  25.00
 closing                              1465.00
 out -79.9, in 1544.9
 END

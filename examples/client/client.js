@@ -2,21 +2,23 @@
 // Posts each line of standard input as an event, in their order, and writes the response to each: client.js [URL].
 //
 // To send an event again is safe, since it acts once. So the same bytes are sent until a response decides them.
-// Ends with 1 if some line wasn't taken, and says on standard error why. Blank lines are ignored.
+// It says on standard error if attempt after attempt gets no response, and goes on. Ends with 1 if some line wasn't taken, and says
+// why. Blank lines are ignored.
 "use strict";
 const { createInterface } = require("node:readline");
 const { setTimeout: sleep } = require("node:timers/promises");
 
 const PATIENCE = 75000; // milliseconds for a response: more than any product's time to answer
+const FAILURES = 6; // attempts without a response after which it says so: some two seconds, if nobody listens
 const NOT_NOW = [408, 429]; // what a proxy says to a request that may come again
 
-// Returns the status and the body of the response to one attempt, or null if there was no whole one.
+// Returns the status and the body of the response to one attempt, or what failed if there was no whole one.
 async function post(url, line) {
     try {
         const response = await fetch(url, { method: "POST", body: line, signal: AbortSignal.timeout(PATIENCE) });
         return { status: response.status, body: await response.text() };
-    } catch {
-        return null;
+    } catch (error) {
+        return { failure: error.cause ?? error };
     }
 }
 
@@ -35,11 +37,19 @@ function decides({ status, body }) {
     return status === 507 || (status >= 400 && status < 500 && !NOT_NOW.includes(status));
 }
 
+function complain(url, failure) {
+    const why = failure.code === "ECONNREFUSED" ? "nobody listens" : `no response: ${failure.message}`;
+    process.stderr.write(`client.js: ${url}: ${why}, and it tries on\n`);
+}
+
 // Sends the line until a response decides it, and returns that response.
 async function posted(url, line) {
+    let failures = 0;
     for (let pause = 50; ; pause = Math.min(2 * pause, 2000)) {
         const response = await post(url, line);
-        if (response && decides(response)) return response;
+        if (!response.failure && decides(response)) return response;
+        failures = response.failure ? failures + 1 : 0;
+        if (failures === FAILURES) complain(url, response.failure);
         await sleep(pause);
     }
 }

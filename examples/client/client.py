@@ -2,7 +2,8 @@
 """Posts each line of standard input as an event, in their order, and writes the response to each: client.py [URL].
 
 To send an event again is safe, since it acts once. So the same bytes are sent until a response decides them.
-Ends with 1 if some line wasn't taken, and says on standard error why. Blank lines are ignored.
+It says on standard error if attempt after attempt gets no response, and goes on. Ends with 1 if some line wasn't taken, and says
+why. Blank lines are ignored.
 """
 import json
 import sys
@@ -11,19 +12,18 @@ from http.client import HTTPConnection, HTTPException, HTTPSConnection
 from urllib.parse import urlsplit
 
 PATIENCE = 75  # seconds for a response: more than any product's time to answer
+FAILURES = 6  # attempts without a response after which it says so: some two seconds, if nobody listens
 NOT_NOW = (408, 429)  # what a proxy says to a request that may come again
 CONNECTIONS = {"http": HTTPConnection, "https": HTTPSConnection}
 
 
 def post(url, line):
-    """Returns the status and the body of the response to one attempt, or None if there was no whole one."""
+    """Returns the status and the body of the response to one attempt. Raises what failed if there was no whole one."""
     connection = CONNECTIONS[url.scheme](url.hostname, url.port, timeout=PATIENCE)
     try:
         connection.request("POST", url.path, line)
         response = connection.getresponse()
         return response.status, response.read()
-    except (OSError, HTTPException):
-        return None
     finally:
         connection.close()
 
@@ -43,13 +43,26 @@ def decides(status, body):
     return status == 507 or 400 <= status < 500 and status not in NOT_NOW
 
 
+def complain(url, failure):
+    why = "nobody listens" if isinstance(failure, ConnectionRefusedError) else f"no response: {failure}"
+    sys.stderr.write(f"client.py: {url.geturl()}: {why}, and it tries on\n")
+
+
 def posted(url, line):
     """Sends the line until a response decides it, and returns that response."""
-    pause = 0.05
-    while not (response := post(url, line)) or not decides(*response):
+    pause, failures = 0.05, 0
+    while True:
+        try:
+            response = post(url, line)
+            if decides(*response):
+                return response
+            failures = 0
+        except (OSError, HTTPException) as failure:
+            failures += 1
+            if failures == FAILURES:
+                complain(url, failure)
         time.sleep(pause)
         pause = min(2 * pause, 2)
-    return response
 
 
 def given_url(text="http://127.0.0.1:8080/events"):

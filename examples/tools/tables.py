@@ -12,7 +12,8 @@ import os
 import sqlite3
 import sys
 
-# A record's own fields; `minor` is its amount in minor units, and `line` the whole line.
+# A record's own fields; `minor` is its amount in minor units, and `line` the whole line. The amount of a purchase that was approved
+# in part is that part.
 COLUMNS = {
     "record": "INTEGER PRIMARY KEY", "at": "INTEGER", "type": "TEXT", "event": "TEXT", "reply": "TEXT", "reason": "TEXT",
     "user": "TEXT", "card": "TEXT", "txn": "TEXT", "currency": "TEXT", "amount": "TEXT", "minor": "INTEGER", "mcc": "TEXT",
@@ -26,7 +27,7 @@ class Replies:
     def __init__(self, texts):
         self.decisions, self.requests, self.notices = {}, {}, {}
         for text in map(json.loads, texts):
-            if text.get("reply") in ("done", "approved", "declined"):
+            if text.get("reply") in ("done", "approved", "partial", "declined"):
                 self.decisions[text["event"]] = text
             elif "number" in text:
                 self.requests[text["number"]] = text
@@ -54,6 +55,8 @@ class Records:
         if line["type"] == "authorization":
             about["txn"] = line["token"]
         decision = self.replies.decisions.get(line.get("token"), {})
+        if "amount" in decision:
+            about["amount"] = decision["amount"]
         row = {**about, "record": number, "reply": decision.get("reply"), "reason": decision.get("reason"), "line": text.rstrip()}
         row["user"] = about.get("user", self.holders.get(about.get("card")))
         row["minor"] = int(about["amount"].replace(".", "")) if "amount" in about else None
