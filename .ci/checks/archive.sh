@@ -71,6 +71,27 @@ sed 's/0\.00/0/' "$room/none" >"$room/yen"
 stated "$room/db" "$room/yen" u1 JPY 2026-03-03 2026-03-04
 rows "$room/db" | cmp -s - "$room/rows" || fail 'statements: they changed the archive'
 
+# The page's commands, in a folder in which the programs are built: after each stands what it writes.
+mkdir -p "$room/page/build"
+cp "$issuer" "$room/page/build/issuer"
+cp "$archive" "$room/page/build/issuer_archive"
+ln -s "$PWD/examples" "$room/page/examples"
+awk -v room="$room/page" '
+    /^## / { exit }
+    /^```/ { inside = !inside; blocks += inside; next }
+    inside { print >(room (blocks % 2 ? "/commands" : "/told")) }
+' docs/ARCHIVE.md
+(cd "$room/page" && bash -eu commands) >"$room/out" 2>"$room/said" || fail "docs/ARCHIVE.md: it said '$(cat "$room/said")'"
+wrote 'docs/ARCHIVE.md' "$room/page/told"
+
+# The statement of docs/RECIPES.md, from the lines that stand beside it.
+issue format "$room/stated" 100000 7
+ended 'the device of a statement' 0 ''
+issue replay "$room/stated" <examples/statement/lines.jsonl >/dev/null
+ended 'the lines of a statement' 0 ''
+archived "$room/stated" "$room/stated.db" '{"posts":7,"records":15}' 'the archive of a statement'
+stated "$room/stated.db" examples/statement/example.jsonl u1 USD 1970-01-02 1970-01-31
+
 # A year of 100,000 postings.
 {
     grep '^CREATE' "$examples/example.sql"
