@@ -6,8 +6,8 @@ use Rattle.iss_follow_catch.specs.Committing.{StopsAt}
 use Rattle.iss_follow_catch.proofs.PlansMade.{early_stops, itself_fits, itself_is, itself_stops, told_stops}
 use Rattle.iss_follow_catch.proofs.committing.plan_of.Goals as goal
 
-pub returns-then-record-now-clause-stops : goal.returns-then-record-now-clause-stops
-returns-then-record-now-clause-stops c =
+pub returns-then-accepted-now-clause-stops : goal.returns-then-accepted-now-clause-stops
+returns-then-accepted-now-clause-stops c =
     let told : c.now.result ≡ c.args.store.now.core.state.now = search rules in
     early_stops c.args.store.now c.args.accepted.now c.now.result told c.if-accepted-now.true
 
