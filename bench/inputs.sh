@@ -118,7 +118,7 @@ kept() {
     gzip -dc "bench/$1.jsonl.gz" | sed -n "1,$2p"
 }
 
-# mix COUNT: lines of all kinds by two hundred users, a part of them bad.
+# mix COUNT: lines of all kinds but switches by four hundred users, a part of them bad.
 mix() {
     kept mix "$1"
 }
