@@ -40,6 +40,7 @@ enough() {
 }
 
 kit=$(rt version 2>/dev/null) || kit=
+python=$(python3 -c 'import sys; print(sys.executable if sys.version_info >= (3, 10) else "")' 2>/dev/null) || python=
 disk=$(df -Pm . | awk 'NR == 2 { print $4 }')
 memory=$(awk '/^MemAvailable:/ { print int($2 / 1024) }' /proc/meminfo)
 
@@ -50,10 +51,11 @@ enough disk "$disk" 5000 'what proofs leave in crates/*/out'
 enough memory "$memory" 3000 'the proof of the largest crate'
 tell ok processors "$(nproc)" 'with four, two crates are proved side by side'
 useful valgrind "$(command -v valgrind || true)" 'counts instructions, which tell growth better than seconds'
+useful strace "$(command -v strace || true)" 'counts the calls of two scripts that make bench runs'
 useful sqlite3 "$(command -v sqlite3 || true)" 'reads archives of postings, and a check compares them'
 useful gcc "$(command -v gcc || true)" 'compiles what make bench compares with, the gateway and clients of the checks, and the disk that forgets'
 useful curl "$(command -v curl || true)" 'posts the lines of docs/SERVING.md, as the checks of serving do'
-useful python3 "$(command -v python3 || true)" 'runs the gateways and clients of the documents and the disk that forgets, and makes the book and the table of clauses'
+needed python3 "$python" 'of 3.10 or later: runs rt, the tests and the gate, and the gateways and clients of the documents'
 useful jq "$(command -v jq || true)" 'makes tables of statements, as docs/RECIPES.md shows'
 useful column "$(command -v column || true)" 'lays those tables out'
 useful node "$(command -v node || true)" 'runs the example gateway and client in JavaScript'

@@ -1,6 +1,6 @@
 #!/usr/bin/env python3
 """Wrong bodies, which the prover must refuse: one file each, in crates/NAME/must-fail/ if the gate tries it, else in
-crates/NAME/mutants/. Edits of statements and definitions stand in mutants/statements/ and count apart.
+crates/NAME/mutants/. Edits of statements and definitions stand in mutants/statements/.
 
     .ci/mutants.py stand            each edit can still be made, and the gate doesn't try too many
     .ci/mutants.py try [CRATE..]    all edits, or those of these crates, are tried in a copy

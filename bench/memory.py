@@ -2,7 +2,7 @@
 """What the program does if it lacks memory: memory.py ISSUER SHIM FOLDER.
 
 Each of three runs is made again and again, and each time one allocation more goes well before one is refused (allocations.c). It ends
-with status 7 or as it does with ample memory; one that serves ends with 3 if it was refused to the outside, in a wait. What it told is
+with status 7 or as it does with ample memory; one that serves ends with 3 if it was refused to the outside, in a wait or in listening. What it told is
 the front of what it tells with ample memory, and has its records. The same holds of a longer replay and of a longer served run under
 twenty limits of their address space.
 """

@@ -1,5 +1,5 @@
 #!/usr/bin/env bash
-# The worked scripts: each is told what stands beside it, and of all of them in a row each line is told something. After each of them a
+# The worked scripts: each is told what stands beside it, and of all in a row at least as many lines are told as came. After each of them a
 # device that has turned goes on as one that hasn't: the accounts are the same, and so is what the script is told once more, and then a
 # month later with other tokens.
 

@@ -9,7 +9,7 @@ const { createInterface } = require("node:readline");
 const { setTimeout: sleep } = require("node:timers/promises");
 
 const PATIENCE = 75000; // milliseconds for a response: more than any product's time to answer
-const FAILURES = 6; // attempts without a response after which it says so: some two seconds, if nobody listens
+const FAILURES = 6; // attempts without a response after which it says so: some one and a half seconds, if nobody listens
 const NOT_NOW = [408, 429]; // what a proxy says to a request that may come again
 
 // Returns the status and the body of the response to one attempt, or what failed if there was no whole one.

@@ -12,7 +12,7 @@ from http.client import HTTPConnection, HTTPException, HTTPSConnection
 from urllib.parse import urlsplit
 
 PATIENCE = 75  # seconds for a response: more than any product's time to answer
-FAILURES = 6  # attempts without a response after which it says so: some two seconds, if nobody listens
+FAILURES = 6  # attempts without a response after which it says so: some one and a half seconds, if nobody listens
 NOT_NOW = (408, 429)  # what a proxy says to a request that may come again
 CONNECTIONS = {"http": HTTPConnection, "https": HTTPSConnection}
 

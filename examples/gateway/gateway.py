@@ -2,12 +2,13 @@
 """A gateway to start from: gateway.py PORT STORE CURRENCY=LIMIT..
 
 It funds a purchase of at most LIMIT, its increments included, in each currency that is named, and refuses every other one.
-It answers as docs/GATEWAY.md says: a token has one text and one answer, a voided token isn't funded any more, and a notice
+It answers as docs/GATEWAY.md says: a token has one text, and one answer until it is voided. After that it is refused. A notice
 acts once.
 
-STORE is a file that only grows: a line for each token and each notice, `funded`, `refused` or `noted` and then the text that
-came. A line is on the disk before its answer goes out, so the gateway may be killed at any moment. One store belongs to one
-device, because the notices of two devices have the same numbers. gateway.js keeps the same store.
+STORE is a file that grows, but for a line that a kill cut short: the next start drops that. It has a line for each token and
+each notice, `funded`, `refused` or `noted` and then the text that came. A line is on the disk before its answer goes out, so
+the gateway may be killed at any moment. One store belongs to one device, because the notices of two devices have the same
+numbers. gateway.js keeps the same store.
 """
 import json
 import os
