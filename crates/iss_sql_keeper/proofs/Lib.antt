@@ -7,3 +7,4 @@ pub mod ShownLemmas
 pub mod AddingLemmas
 pub mod OpenedLemmas
 pub mod RefusedLemmas
+pub mod TellingLemmas

@@ -8,6 +8,7 @@ ghost use Rattle.iss_sql_keeper.specs.Decoded.{head_of};
 ghost use Rattle.iss_sql_keeper.specs.Given.{posting_given};
 ghost use Rattle.iss_sql_keeper.specs.Opened.{MayLeaveGiven, TellsGiven};
 ghost use Rattle.iss_sql_keeper.specs.Shown.{AddsTo, IsKept, LeavesAdded, MayLeaveAdded, Stays, TellsAdded, TellsSame, told_in};
+ghost use Rattle.iss_sql_keeper.specs.Telling.{StaysTold};
 
 use crate::asking::told;
 use crate::columns::{all_columns_of, head_columns_of};
@@ -27,6 +28,7 @@ fn add_columns<S: Alter>(
     ensures mode { conn.new.in_transaction ≡ false }
     ensures clean { HasCleanDisk (state S.Store conn.new) → HasCleanDisk (state S.Store conn.old) }
     ensures added { AddsTo rows.now head.now result (state S.Store conn.old) (state S.Store conn.new) }
+    ensures telling { StaysTold result (state S.Store conn.new) }
     ensures undone { OnErr result (Stays (state S.Store conn.old) (state S.Store conn.new)) }
     ensures left { LeavesAdded rows.now head.now (state S.Store conn.old) (state S.Store conn.new) }
 {
@@ -47,6 +49,7 @@ fn add_record<S: Alter>(
     requires next { IfSome (told_in (state S.Store conn.old)) (λ a. Follows a (head_of head.now) (map posting_given rows.now)) }
     ensures kept { IsKept (state S.Store conn.new) }
     ensures added { TellsGiven head.now rows.now result (state S.Store conn.old) (state S.Store conn.new) }
+    ensures telling { StaysTold result (state S.Store conn.new) }
     ensures undone { TellsSame result (state S.Store conn.old) (state S.Store conn.new) }
     ensures stop { MayLeaveGiven head.now rows.now (state S.Store conn.old) (state S.Store conn.new) }
 {
@@ -65,6 +68,7 @@ pub(crate) fn add_to<S: Alter>(
     requires next { IfSome (told_in (state S.Store conn.old)) (λ a. Follows a head.now rows.now) }
     ensures kept { IsKept (state S.Store conn.new) }
     ensures added { TellsAdded head.now rows.now result (state S.Store conn.old) (state S.Store conn.new) }
+    ensures telling { StaysTold result (state S.Store conn.new) }
     ensures undone { TellsSame result (state S.Store conn.old) (state S.Store conn.new) }
     ensures stop { MayLeaveAdded head.now rows.now (state S.Store conn.old) (state S.Store conn.new) }
 {

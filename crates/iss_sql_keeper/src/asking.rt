@@ -15,6 +15,7 @@ ghost use Rattle.iss_tables.specs.Steps.{IsHeadRow, head_row};
 ghost use Rattle.iss_sql_keeper.specs.Decoded.{archived_in, head_of, posting_shown};
 ghost use Rattle.iss_sql_keeper.specs.Refused.{AsksUnlessUnasked, HeadUnlessUnasked, IsOddHead, NamesFailure, NoneAboveUnlessUnasked};
 ghost use Rattle.iss_sql_keeper.specs.Shown.{GivesHeadBefore, Holds, HoldsPosts, IsKept, LeavesNothingNew, LeavesSame, Stays, Tells, TellsHead, TellsPosts, TellsSame};
+ghost use Rattle.iss_sql_keeper.specs.Telling.{StaysTold};
 
 use crate::reading::{self, postings_of};
 use iss_archive::{Head, KeepFault, PostRow, is_statable};
@@ -45,6 +46,7 @@ fn ask_head<S: Alter>(conn: &mut Connection<S>) -> Result<Option<HeadColumns>, K
     ensures stays { Stays (state S.Store conn.old) (state S.Store conn.new) }
     ensures left { LeavesNothingNew (state S.Store conn.old) (state S.Store conn.new) }
     ensures read { IfOk result (λ head. Holds (state S.Store conn.new) (λ trees. IsHeadRow head (head_row (trees 0)))) }
+    ensures telling { StaysTold result (state S.Store conn.new) }
     ensures was { ReadsHead result (state S.Store conn.old) (state S.Store conn.new) }
     ensures done { DoneAsking result (state S.Store conn.old) (state S.Store conn.new) }
     ensures cause { HeadUnlessUnasked result (state S.Store conn.old) (state S.Store conn.new) }
@@ -76,6 +78,7 @@ pub(crate) fn head_in<S: Alter>(conn: &mut Connection<S>) -> Result<Option<Head>
     ensures stays { Stays (state S.Store conn.old) (state S.Store conn.new) }
     ensures left { LeavesNothingNew (state S.Store conn.old) (state S.Store conn.new) }
     ensures read { IfOk result (λ head. Holds (state S.Store conn.new) (λ trees. head ≡ (archived_in trees).head)) }
+    ensures telling { StaysTold result (state S.Store conn.new) }
     ensures was { GivesHeadBefore result (state S.Store conn.old) (state S.Store conn.new) }
     ensures done { DoneAsking result (state S.Store conn.old) (state S.Store conn.new) }
     ensures cause { HeadUnlessUnasked result (state S.Store conn.old) (state S.Store conn.new) }
@@ -93,6 +96,7 @@ pub(crate) fn is_none_above<S: Alter>(
     requires { conn.old.in_transaction ≡ false }
     ensures stays { Stays (state S.Store conn.old) (state S.Store conn.new) }
     ensures found { IfOk result (λ none. IsTrue none → Holds (state S.Store conn.new) (HasNoneAbove most.now)) }
+    ensures telling { StaysTold result (state S.Store conn.new) }
     ensures untaken { NoneAboveUnlessUnasked most.now result (state S.Store conn.old) (state S.Store conn.new) }
     ensures cause { AsksUnlessUnasked result (state S.Store conn.old) (state S.Store conn.new) }
 {
@@ -113,6 +117,7 @@ fn ask_posts<S: Alter>(
     ensures stays { Stays (state S.Store conn.old) (state S.Store conn.new) }
     ensures left { LeavesNothingNew (state S.Store conn.old) (state S.Store conn.new) }
     ensures shown { IfOk result (λ rows. Holds (state S.Store conn.new) (λ trees. ShowsPostsOf account.now trees rows.items)) }
+    ensures telling { StaysTold result (state S.Store conn.new) }
 {
     if !is_ours(conn.schema()) {
         return Err(KeepFault::Failed);
@@ -161,6 +166,7 @@ fn posts_in<S: Alter>(
     ensures left { LeavesNothingNew (state S.Store conn.old) (state S.Store conn.new) }
     ensures read { IfOk result (λ rows. HoldsPosts user.now currency rows.items (state S.Store conn.new)) }
     ensures statable { IfOk result (λ rows. IsTrue (statable.is_statable user.now currency rows.items)) }
+    ensures telling { StaysTold result (state S.Store conn.new) }
 {
     let shown = ask_posts(conn, &account_for(user, currency))?;
     stated(alloc, shown.as_slice(), user, currency)
@@ -171,6 +177,7 @@ pub(crate) fn tell_head<S: Alter>(conn: &mut Connection<S>) -> Result<Option<Hea
     requires { IsKept (state S.Store conn.old) }
     ensures kept { IsKept (state S.Store conn.new) }
     ensures read { TellsHead result (state S.Store conn.old) (state S.Store conn.new) }
+    ensures telling { StaysTold result (state S.Store conn.new) }
     ensures unchanged { TellsSame result (state S.Store conn.old) (state S.Store conn.new) }
     ensures stop { LeavesSame (state S.Store conn.old) (state S.Store conn.new) }
 {
@@ -188,6 +195,7 @@ pub(crate) fn tell_posts<S: Alter>(
     ensures kept { IsKept (state S.Store conn.new) }
     ensures read { TellsPosts user.now currency result (state S.Store conn.old) (state S.Store conn.new) }
     ensures statable { IfOk result (λ rows. IsTrue (statable.is_statable user.now currency rows.items)) }
+    ensures telling { StaysTold result (state S.Store conn.new) }
     ensures unchanged { TellsSame result (state S.Store conn.old) (state S.Store conn.new) }
     ensures stop { LeavesSame (state S.Store conn.old) (state S.Store conn.new) }
 {

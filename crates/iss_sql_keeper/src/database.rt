@@ -7,6 +7,7 @@ ghost use Rattle.iss_archive.specs.Statable.{is_statable};
 ghost use Rattle.iss_sql_keeper.specs.Opened.{HoldsOn};
 ghost use Rattle.iss_sql_keeper.specs.Refused.{WhyRefused};
 ghost use Rattle.iss_sql_keeper.specs.Shown.{LeavesSame, MayLeaveAdded, TellsAdded, TellsHead, TellsPosts, TellsSame, told_in};
+ghost use Rattle.iss_sql_keeper.specs.Telling.{IsTold, StaysTold};
 
 use crate::adding::add_to;
 use crate::asking::{tell_head, tell_posts};
@@ -45,6 +46,7 @@ impl<S: Alter + Drop> Database<S> {
         mut conn: Connection<S>,
     ) -> Result<Result<Database<S>, Connection<S>>, AllocError>
         ensures held { IfOk result (λ opened. IfOk opened (λ d. HoldsOn (state S.Store conn) (state S.Store d))) }
+        ensures told { IfOk result (λ opened. IfOk opened (λ d. IsTold (state S.Store d))) }
         ensures cause { IfOk result (λ opened. IfErr opened (λ d. WhyRefused (state S.Store conn) (state S.Store d))) }
     {
         match prepare(&mut conn) {
@@ -64,6 +66,7 @@ impl<S: Alter + Drop> Database<S> {
     /// The head, if there is one.
     pub(crate) fn head(&mut self) -> Result<Option<Head>, KeepFault>
         ensures read { TellsHead result (state S.Store self.old) (state S.Store self.new) }
+        ensures telling { StaysTold result (state S.Store self.new) }
         ensures unchanged { TellsSame result (state S.Store self.old) (state S.Store self.new) }
         ensures stop { LeavesSame (state S.Store self.old) (state S.Store self.new) }
     {
@@ -74,6 +77,7 @@ impl<S: Alter + Drop> Database<S> {
     pub(crate) fn add(&mut self, head: &Head, rows: &[PostRow]) -> Result<(), KeepFault>
         requires { IfSome (told_in (state S.Store self.old)) (λ a. Follows a head.now rows.now) }
         ensures added { TellsAdded head.now rows.now result (state S.Store self.old) (state S.Store self.new) }
+        ensures telling { StaysTold result (state S.Store self.new) }
         ensures undone { TellsSame result (state S.Store self.old) (state S.Store self.new) }
         ensures stop { MayLeaveAdded head.now rows.now (state S.Store self.old) (state S.Store self.new) }
     {
@@ -88,6 +92,7 @@ impl<S: Alter + Drop> Database<S> {
     ) -> Result<Vec<PostRow>, KeepFault>
         ensures read { TellsPosts user.now currency result (state S.Store self.old) (state S.Store self.new) }
         ensures statable { IfOk result (λ rows. IsTrue (is_statable user.now currency rows.items)) }
+        ensures telling { StaysTold result (state S.Store self.new) }
         ensures unchanged { TellsSame result (state S.Store self.old) (state S.Store self.new) }
         ensures stop { LeavesSame (state S.Store self.old) (state S.Store self.new) }
     {

@@ -8,6 +8,7 @@ ghost use Rattle.iss_tables.specs.Calls.{HasNoneAbove, MakesTables};
 ghost use Rattle.iss_sql_keeper.specs.Opened.{HoldsOn};
 ghost use Rattle.iss_sql_keeper.specs.Refused.{AsksUnlessUnasked, CountedUnlessUnasked, FailedUnlessUnasked, HasMade, HeadUnlessUnasked, IsSettled, MakesUnlessUnasked, PreparedUnlessUnasked, TakenUnlessUnasked};
 ghost use Rattle.iss_sql_keeper.specs.Shown.{Holds, IsKept, Stays};
+ghost use Rattle.iss_sql_keeper.specs.Telling.{IsTold};
 
 use crate::asking::{head_in, is_none_above, told};
 use crate::columns::signed;
@@ -31,6 +32,7 @@ fn is_counted<S: Alter>(conn: &mut Connection<S>, head: &Option<Head>) -> Result
     requires { conn.old.in_transaction ≡ false }
     ensures stays { Stays (state S.Store conn.old) (state S.Store conn.new) }
     ensures found { IfOk result (λ yes. IsTrue yes → Holds (state S.Store conn.new) (HasNoneAbove (pos (posts_in head.now)))) }
+    ensures told { IfOk result (λ yes. IsTrue yes → IsTold (state S.Store conn.new)) }
     ensures untaken { CountedUnlessUnasked (posts_in head.now) result (state S.Store conn.old) (state S.Store conn.new) }
     ensures failed { AsksUnlessUnasked result (state S.Store conn.old) (state S.Store conn.new) }
 {
@@ -44,6 +46,7 @@ fn is_counted<S: Alter>(conn: &mut Connection<S>, head: &Option<Head>) -> Result
 fn is_archive<S: Alter>(conn: &mut Connection<S>) -> Result<bool, KeepFault>
     requires { conn.old.in_transaction ≡ false }
     ensures kept { IfOk result (λ yes. IsTrue yes → IsKept (state S.Store conn.new)) }
+    ensures told { IfOk result (λ yes. IsTrue yes → IsTold (state S.Store conn.new)) }
     ensures stays { Stays (state S.Store conn.old) (state S.Store conn.new) }
     ensures untaken { TakenUnlessUnasked result (state S.Store conn.old) (state S.Store conn.new) }
     ensures failed { HeadUnlessUnasked result (state S.Store conn.old) (state S.Store conn.new) }
@@ -89,6 +92,7 @@ fn make_outside<S: Alter>(conn: &mut Connection<S>) -> Result<(), KeepFault>
 /// Makes the two tables if they aren't there, and says whether what is there is an archive. It fails if a transaction is under way.
 pub(crate) fn prepare<S: Alter>(conn: &mut Connection<S>) -> Result<bool, KeepFault>
     ensures kept { IfOk result (λ yes. IsTrue yes → IsKept (state S.Store conn.new)) }
+    ensures told { IfOk result (λ yes. IsTrue yes → IsTold (state S.Store conn.new)) }
     ensures held { IfOk result (λ yes. IsTrue yes → HoldsOn (state S.Store conn.old) (state S.Store conn.new)) }
     ensures untaken { PreparedUnlessUnasked result (state S.Store conn.old) (state S.Store conn.new) }
     ensures failed { FailedUnlessUnasked result (state S.Store conn.old) (state S.Store conn.new) }

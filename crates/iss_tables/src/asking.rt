@@ -94,6 +94,7 @@ pub fn read_posts<S: Alter>(
     account: &UserColumns<'_>,
 ) -> Result<Vec<Row>, Error>
     ensures shown { ShowsPosts account.now result (state S.Store conn.old) (state S.Store conn.new) }
+    ensures done { DoneAsking result (state S.Store conn.old) (state S.Store conn.new) }
     ensures cause { AskCause result (state S.Store conn.old) (state S.Store conn.new) }
     ensures opened { KeepsOpen (state S.Store conn.old) (state S.Store conn.new) }
     ensures clean { HasCleanDisk (state S.Store conn.new) → HasCleanDisk (state S.Store conn.old) }

@@ -5,11 +5,15 @@ use Rattle.iss_tables.specs.Texts.{get_posts}
 use Rattle.iss_tables.proofs.Compiled.{plain}
 use Rattle.iss_tables.proofs.Reading.{posts_answer}
 use Rattle.iss_tables.proofs.Unasked.{posts_unasked}
-use Rattle.iss_tables.proofs.Asked.{opened_asked, keeps_asked, survives_asked}
+use Rattle.iss_tables.proofs.Asked.{answered, opened_asked, keeps_asked, survives_asked}
 use Rattle.iss_tables.proofs.asking.read_posts.Goals as goal
 
 pub returns-clause-shown : goal.returns-clause-shown
 returns-clause-shown g c clean = posts_answer _ _ c.args.account.now.user.now c.args.account.now.currency c.query_all.result (rw (c.params-to_sql.ensures, c.params-to_sql-2.ensures) at (c.query_all.ensures.ok clean))
+
+pub returns-clause-done : goal.returns-clause-done
+returns-clause-done g c clean has =
+    answered _ _ _ _ c.query_all.result (subst (λ s. IsPlain (understood s get_posts)) (sym has) plain.7) (c.query_all.ensures.ok clean) c.query_all.ensures.survives.counts c.query_all.ensures.survives.limit
 
 pub returns-clause-kept : goal.returns-clause-kept
 returns-clause-kept g c clean has =
