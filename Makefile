@@ -62,11 +62,12 @@ checks: ## lists the checks of the gate, and what each of them asks
 mutants: ## tries all wrong bodies in a copy, and lists those that were not refused; make mutants CRATE=iss_card tries one crate's
 	@.ci/mutants.py try $(CRATE)
 
-bench: issuer archive ## lines per second, memory, cache misses, and openings; replies and served calls per second on a device, beside a loop in C; calls of the system; hostile use; want of memory; costs of long input; postings archived
+bench: issuer archive ## lines per second, memory, cache misses, and openings; replies and served calls per second on a device, beside a loop in C; its writes and syncs, beside those of its records; calls of the system; hostile use; want of memory; costs of long input; postings archived
 	bash bench/dry.sh
 	bash bench/cache.sh
 	bash bench/opening.sh
 	bash bench/replay.sh
+	bash bench/writes.sh
 	bash bench/serve.sh
 	bash bench/calls.sh
 	bash bench/hostile.sh

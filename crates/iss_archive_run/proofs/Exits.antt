@@ -324,6 +324,7 @@ module _ (s : StoreNow) (steps : List Stepped) (before now : Faults) (x y : Opti
             record {
               opening = good.added;
               on_device = good.on_device;
+              opening_is = good.syncs;
               grew =
                   o.later.trace
                   ∙ ap (λ (l : List Action). l ++ Emit ch line true ∷ []) good.grew

@@ -18,7 +18,7 @@ use Rattle.iss_archive.specs.Runs.{KeepsUp, IsUpToDate, LeavesFirst}
 use Rattle.iss_archive.specs.Steps.{IsCalledFor}
 use Rattle.iss_standing.specs.Standing.{DeviceStandsFor}
 use Rattle.iss_opening.specs.Values.{StoreNow}
-use Rattle.iss_opening.specs.Opening.{AreOnDevice, OpensStore}
+use Rattle.iss_opening.specs.Opening.{AreOnDevice, SyncsFirst, OpensStore}
 use Rattle.iss_device.specs.Refusals.{OnDeviceAlone, RefusesExactly}
 use Rattle.iss_follow_runs.specs.Moments.{TellsMoments, KeepsRecords, EndsKept}
 use Rattle.iss_follow_runs.specs.Sendings.{SendsPart}
@@ -59,10 +59,11 @@ IsDue (Err Keeper) device a b = Unit {0}
 abbrev pub DueOn : {A : Type 0} → Result A Stop → Option Archived → Option Archived → World → World → Type 0
 DueOn result v w a b = archived.Told (IsDue result a.device) v w
 
--- after an opening, which is on the device alone, the line went out on channel 0 by one emit, and no more was done
+-- After an opening, which is at most a sync and then one put of a byte of 0, the line went out on channel 0 by one emit, and no more was done.
 pub record SendsLine (posts records : ℕ) (a b : World) : Type 0 where
   pub opening : List Action
   pub on_device : AreOnDevice opening
+  pub opening_is : SyncsFirst opening
   pub grew : b.trace ≡ a.trace ++ (opening ++ Emit (record { 0 = 0 }) (archived_line posts records) true ∷ [])
 
 -- the line tells how many postings are held, and how many records the device has

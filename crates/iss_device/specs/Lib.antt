@@ -1,4 +1,5 @@
 pub mod Runs
 pub mod Refusals
 pub mod Moments
+pub mod Writes
 pub mod Lives

@@ -21,7 +21,7 @@ use Rattle.iss_device.proofs.Devices.{Behind, told_behind}
 use Rattle.iss_follow_runs.specs.declared.stop.Stop.{Stop}
 use Rattle.iss_follow_runs.specs.declared.stop.Stop.TheVariants as stop
 use Rattle.iss_follow_runs.specs.Statuses.{exit_status, stop_of_opening}
-use Rattle.iss_follow_runs.specs.Moments.{KeepsMoments, EndsWith, EndsKept}
+use Rattle.iss_follow_runs.specs.Moments.{KeepsMoments, EndsKept}
 use Rattle.iss_follow_runs.specs.Causes.{BothTold}
 use Rattle.iss_follow_runs.specs.Refusals.{RefusesEither}
 use Rattle.iss_follow_runs.specs.Holdings.{image_of}
@@ -29,11 +29,13 @@ use Rattle.iss_follow_runs.proofs.Images.{image_opened, instance_opened, count_o
 use Rattle.iss_follow_runs.proofs.Openings.{moments_unopened, moments_opened, moments_part, ends_alone, ends_opened, ends_so}
 use Rattle.iss_follow_runs.proofs.Refusals.{first_refused, second_refused, both_opened}
 use Rattle.iss_follow_runs.proofs.Tellings.{status_of, not_status, caused_second, told_unopened_moments, told_unopened_alone, told_unopened_ends, told_opened_moments, told_opened_records, told_opened_alone, told_opened_ends}
-use Rattle.iss_follow_catch.specs.Rooms.{room_on, room_behind, FitsNext, FitsAll, FitsUpTo}
+use Rattle.iss_follow_catch.specs.Rooms.{room_on, room_behind, FitsNext, FitsAll}
 use Rattle.iss_follow_catch.specs.Committing.{LastsInPart, LastsSome, WhereLeft, CommitsAll, CommitsUpTo, CommitRun, DiskCaused, EndsAsCommit}
 use Rattle.iss_follow_catch.specs.Behind.{IsPastCore, FindsCore, OpensAhead}
+use Rattle.iss_follow_catch.specs.Writing.{WrotePart}
 use Rattle.iss_follow_catch.specs.Catching.{IsBehind, missing, caught_up, MomentsUpTo, CaughtUp, CaughtUpTo, CatchOn, CatchRun, KeepsFirst, EndsFirst, EndsAsCatch, CatchDone}
 use Rattle.iss_follow_catch.proofs.Pasts.{caught_history}
+use Rattle.iss_follow_catch.proofs.Writes.{alone_part, alone_wrote, wrote_first, wrote_whole}
 use Rattle.iss_follow_catch.proofs.Firsts.{keeps_first, quiet_part, first_some, told_first_kept}
 
 -- what holds of what both tell
@@ -56,6 +58,7 @@ module _ (form : Form) (seat : Seat) (rs : List Record) (other : Form) (other_se
         whole = λ e. absurd (zero e);
         full = λ e. absurd (nine e);
         moments = no_moments keeps stands;
+        wrote = alone_part other other_seat others (missing rs others) c d (keeps other other_seat others stands);
       }
 
 nothing_caught : (n : ℕ) (a b c d : World) → (n ≡ 0 → ⊥) → (n ≡ 9 → ⊥) → (n ≡ 10 → ⊥) → KeepsMoments c d → CatchRun n a b c d
@@ -117,7 +120,7 @@ to_unopened fault g other_before other_now x z w opens good reads cause =
       kept = told_map OpensGood KeepsFirst z w (λ c d q. keeps_first c d (moments_unopened c d q)) good;
       quiet = told_unopened_alone x x still;
       ended = λ six. told_map ReadsAlone EndsKept x x ends_alone (same_alone x x (told_self Same x same_self));
-      other_ended = λ six. told_first_kept z w (told_unopened_ends z w StoreNow fault six reads);
+      other_ended = λ six. told_first_kept z w (told_unopened_moments z w good) (told_unopened_ends z w StoreNow fault six reads);
       caught = told_two OpensGood OpensGood (CatchRun n) x x z w (λ a b c d p q. nothing_caught n a b c d (not_zero fault) (not_nine fault) (not_ten fault) (moments_unopened c d q)) still good;
     }
 
@@ -144,7 +147,7 @@ module _ (t : StoreNow) (other_before other_now : Faults) (z w : Option World) (
         kept = told_map (OpenedAs t) KeepsFirst z w (λ c d q. keeps_first c d (moments_opened t c d q)) second;
         quiet = told_unopened_alone x y good;
         ended = λ six. told_unopened_ends x y StoreNow fault six reads;
-        other_ended = λ six. told_first_kept z w (told_opened_ends z w t second);
+        other_ended = λ six. told_first_kept z w (told_opened_moments z w t second) (told_opened_ends z w t second);
         caught =
             told_two OpensGood (OpenedAs t) (CatchRun n) x y z w
             (λ a b c d p q. nothing_caught n a b c d (not_zero fault) (not_nine fault) (not_ten fault) (moments_opened t c d q)) good second;
@@ -194,11 +197,12 @@ module _ (t : StoreNow) (other_before other_now : Faults) (z w : Option World) (
             behind = λ e. absurd (elim e [ inl x ↦ cc | inr x ↦ cc ]);
             not_behind = λ e. (
               λ behind. subst (λ (m : Bool). FindsCore s.core t.core seat rs m found) none (ahead.finds form seat rs stands) (is_past behind),
-              ends_opened t c d opened other other_seat others there,
+              (ends_opened t c d opened other other_seat others there, alone_wrote other other_seat others c d (moments_opened t c d opened other other_seat others there)),
             );
             whole = λ e. absurd cc;
             full = λ e. absurd cc;
             moments = no_moments form seat rs other other_seat others c d (moments_opened t c d opened) there;
+            wrote = alone_part other other_seat others (missing rs others) c d (moments_opened t c d opened other other_seat others there);
           }
 
     pub catch_not_behind : met ≡ false → CatchDone {A = Unit {0}} before now other_before other_now x y z w (Err stop.NotBehind)
@@ -212,7 +216,7 @@ module _ (t : StoreNow) (other_before other_now : Faults) (z w : Option World) (
           kept = told_map (OpenedAs t) KeepsFirst z w (λ c d q. keeps_first c d (moments_opened t c d q)) second;
           quiet = told_opened_alone x y s opened_first;
           ended = λ six. told_opened_ends x y s opened_first;
-          other_ended = λ six. told_first_kept z w (told_opened_ends z w t second);
+          other_ended = λ six. told_first_kept z w (told_opened_moments z w t second) (told_opened_ends z w t second);
           caught =
               told_two (OpensAhead s t.core met found) (OpenedAs t) (CatchRun 10) x y z w (λ a b c d o q form seat rs stands other other_seat others there.
               not_behind_on a b c d o q form seat rs stands other other_seat others there none) first second;
@@ -253,36 +257,33 @@ module _ (t : StoreNow) (other_before other_now : Faults) (z w : Option World) (
             moments = moments_part other other_seat others t c d e opened there (others ++ part.done) [] part.goes;
           }
 
+      wrote_on : LastsInPart t (missing rs others) d e → WrotePart other other_seat others (missing rs others) c e
+      wrote_on lasts =
+          let part = lasts others own_stands in
+          wrote_first t c d e opened other other_seat others there part.done (missing rs others) part.first part.goes
+
       whole_on : CommitsAll t (missing rs others) others d e → CaughtUp other other_seat others (missing rs others) c e
       whole_on all =
           record {
             fit = subst (λ (room : Room). FitsAll room others (missing rs others)) own_room all.fit;
             ends = ends_so other other_seat others t c d e opened there all.to (others ++ missing rs others) [] all.goes;
+            wrote = wrote_whole t c d e opened other other_seat others there all.to (missing rs others) all.goes;
           }
 
       full_on : CommitsUpTo t (missing rs others) others d e → CaughtUpTo other other_seat others (missing rs others) c e
       full_on some =
-          let up_to : (up_to : FitsUpTo (room_in other other_seat) others (missing rs others)) × (up_to.first ≡ some.up_to.first) =
-          up_to_in (room_on t) (room_in other other_seat) own_room some.up_to in
           record {
-            up_to = up_to.0;
-            ends =
-                subst (λ (l : List Record). EndsWith other others (others ++ l) c e) (sym up_to.1)
-                (ends_so other other_seat others t c d e opened there some.to (others ++ some.up_to.first) [] some.goes);
+            up_to = record {
+              first = some.up_to.first;
+              r = some.up_to.r;
+              rest = some.up_to.rest;
+              cut = some.up_to.cut;
+              fit = subst (λ (room : Room). FitsAll room others some.up_to.first) own_room some.up_to.fit;
+              full = subst (λ (room : Room). FitsNext (room_behind room others some.up_to.first) (others ++ some.up_to.first) some.up_to.r → ⊥) own_room some.up_to.full;
+            };
+            ends = ends_so other other_seat others t c d e opened there some.to (others ++ some.up_to.first) [] some.goes;
+            wrote = wrote_whole t c d e opened other other_seat others there some.to some.up_to.first some.goes;
           }
-        where
-          up_to_in : (room own : Room) → room ≡ own → (some : FitsUpTo room others (missing rs others)) → (up_to : FitsUpTo own others (missing rs others)) × (up_to.first ≡ some.first)
-          up_to_in room own same some = (
-            record {
-              first = some.first;
-              r = some.r;
-              rest = some.rest;
-              cut = some.cut;
-              fit = subst (λ (x : Room). FitsAll x others some.first) same some.fit;
-              full = subst (λ (x : Room). FitsNext (room_behind x others some.first) (others ++ some.first) some.r → ⊥) same some.full;
-            },
-            refl,
-          )
 
       run_on : (result : Result (Unit {0}) Stop) → CommitRun t (missing rs others) result d e → LastsInPart t (missing rs others) d e → CatchOn (exit_status result) form seat rs other other_seat others c e
       run_on (Ok tt) run part =
@@ -292,6 +293,7 @@ module _ (t : StoreNow) (other_before other_now : Faults) (z w : Option World) (
             whole = λ x. whole_on (run others own_stands);
             full = λ x. absurd cc;
             moments = part_on part;
+            wrote = wrote_on part;
           }
       run_on (Err stop.NoRoom) run part =
           record {
@@ -300,12 +302,13 @@ module _ (t : StoreNow) (other_before other_now : Faults) (z w : Option World) (
             whole = λ x. absurd cc;
             full = λ x. full_on (run others own_stands all_history);
             moments = part_on part;
+            wrote = wrote_on part;
           }
       run_on (Err stop.NotBehind) run part = absurd (run others own_stands all_history)
       run_on (Err stop.Disk) run part =
-          record { behind = λ x. behind_here; not_behind = λ x. absurd cc; whole = λ x. absurd cc; full = λ x. absurd cc; moments = part_on part }
+          record { behind = λ x. behind_here; not_behind = λ x. absurd cc; whole = λ x. absurd cc; full = λ x. absurd cc; moments = part_on part; wrote = wrote_on part }
       run_on (Err stop.Memory) run part =
-          record { behind = λ x. behind_here; not_behind = λ x. absurd cc; whole = λ x. absurd cc; full = λ x. absurd cc; moments = part_on part }
+          record { behind = λ x. behind_here; not_behind = λ x. absurd cc; whole = λ x. absurd cc; full = λ x. absurd cc; moments = part_on part; wrote = wrote_on part }
       run_on (Err stop.Device) run part = absurd run
       run_on (Err stop.Output) run part = absurd run
 

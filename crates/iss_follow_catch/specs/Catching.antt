@@ -17,6 +17,7 @@ use Rattle.iss_follow_runs.specs.Moments.{MomentsOf, KeepsMoments, KeepsRecords,
 use Rattle.iss_follow_runs.specs.Causes.{IsCaused, BothTold}
 use Rattle.iss_follow_runs.specs.Refusals.{RefusesEither}
 use Rattle.iss_follow_catch.specs.Rooms.{FitsAll, FitsUpTo}
+use Rattle.iss_follow_catch.specs.Writing.{Wrote, WrotePart}
 
 -- The second device, of this form and with these other records, is behind the first. Both have the same instance. The second has no more records
 -- than the first, and no fewer than are in the image of the first one's current half alone. And what stands on it has the image of the first one's
@@ -45,27 +46,32 @@ pub record MomentsUpTo (other : Form) (others all : List Record) (c d : World) :
   pub first : AreFirstOf made all
   pub moments : MomentsOf other others made c d
 
--- all records that were missing fit, and the device ended with all
+-- all records that were missing fit, and the device ended with all: what was written is just the puts of those
 pub record CaughtUp (other : Form) (seat : Seat) (others records : List Record) (c d : World) : Type 0 where
   pub fit : FitsAll (room_in other seat) others records
   pub ends : EndsWith other others (others ++ records) c d
+  pub wrote : Wrote other seat others records c d
 
--- the first of the records that were missing fit, and the device ended with those; the next one doesn't fit
+-- the first of the records that were missing fit, and the device ended with those, by just their puts; the next one doesn't fit
 pub record CaughtUpTo (other : Form) (seat : Seat) (others records : List Record) (c d : World) : Type 0 where
   pub up_to : FitsUpTo (room_in other seat) others records
   pub ends : EndsWith other others (others ++ up_to.first) c d
+  pub wrote : Wrote other seat others up_to.first c d
 
 -- What catching up with this status did on the second device, by the records for which both stand.
 pub record CatchOn (status : ℕ) (form : Form) (seat : Seat) (rs : List Record) (other : Form) (other_seat : Seat) (others : List Record) (c d : World) : Type 0 where
-  -- the status is 10 exactly if the second isn't behind the first; then nothing is committed
+  -- the status is 10 exactly if the second isn't behind the first; then nothing is committed, nor written after the opening
   pub behind : (status ≡ DONE) ⊎ (status ≡ NO_ROOM) → IsBehind form seat rs other others
-  pub not_behind : status ≡ NOT_BEHIND → (IsBehind form seat rs other others → ⊥) × EndsWith other others others c d
+  pub not_behind : status ≡ NOT_BEHIND
+      → (IsBehind form seat rs other others → ⊥) × (EndsWith other others others c d × Wrote other other_seat others [] c d)
   -- at 0 all records fitted, and the device stands for them too
   pub whole : status ≡ DONE → CaughtUp other other_seat others (missing rs others) c d
   -- the status is 9 exactly if one doesn't fit; then those before it are committed
   pub full : status ≡ NO_ROOM → CaughtUpTo other other_seat others (missing rs others) c d
   -- at each moment a stop leaves its records and some first ones of those that were missing
   pub moments : MomentsUpTo other others (caught_up rs others) c d
+  -- at any status what is written after the opening is the puts of the records that were missing, in order, or a first part of them
+  pub wrote : WrotePart other other_seat others (missing rs others) c d
 
 -- whichever records both stand for, if any
 abbrev pub CatchRun : ℕ → World → World → World → World → Type 0
@@ -74,17 +80,23 @@ CatchRun status a b c d =
     → (other : Form) (other_seat : Seat) (others : List Record) → DeviceStandsFor other other_seat others c.device
     → CatchOn status form seat rs other other_seat others c d
 
--- whatever the first device stands for: at each moment a stop leaves the second one's records, and maybe more; and nothing goes out of it
+-- Whatever the first device stands for: at each moment a stop leaves the second one's records, and maybe more. Nothing goes out of it, and what
+-- is written after the opening is the puts of those more, or a first part of them.
 abbrev pub KeepsFirst : World → World → Type 0
 KeepsFirst c d =
     (form : Form) (seat : Seat) (rs : List Record) → DeviceStandsFor form seat rs c.device
-    → (made : List Record) × ((moments : MomentsOf form rs made c d) × (channel_steps moments.later ≡ []))
+    → (made : List Record) × ((moments : MomentsOf form rs made c d) × ((channel_steps moments.later ≡ []) × WrotePart form seat rs moments.more.later c d))
+
+-- the run ended where the next one begins, with the second one's records and these later ones, by just the puts of those
+pub record EndsLater (form : Form) (seat : Seat) (rs : List Record) (c d : World) : Type 0 where
+  pub later : List Record
+  pub ends : EndsWith form rs (rs ++ later) c d
+  pub wrote : Wrote form seat rs later c d
 
 -- nothing was done on it but maybe a sync, or the run ended where the next one begins, with the second one's records, and maybe more
 abbrev pub EndsFirst : World → World → Type 0
 EndsFirst c d =
-    (form : Form) (seat : Seat) (rs : List Record) → DeviceStandsFor form seat rs c.device
-    → ReadsAlone c d ⊎ ((made : List Record) × EndsWith form rs made c d)
+    (form : Form) (seat : Seat) (rs : List Record) → DeviceStandsFor form seat rs c.device → ReadsAlone c d ⊎ EndsLater form seat rs c d
 
 -- catching up doesn't end so
 abbrev pub EndsAsCatch : {A : Type 0} → Result A Stop → Type 0
@@ -106,7 +118,7 @@ pub record CatchDone {A : Type 0} (before now other_before other_now : Faults) (
   -- at each moment a stop leaves what stood on the first device, and at 0 it stands there
   pub moments : Told KeepsMoments x y
   pub records : exit_status result ≡ DONE → Told KeepsRecords x y
-  -- at each moment a stop leaves what stood on the second device, and maybe more
+  -- at each moment a stop leaves what stood on the second device, and maybe more, by puts of just that
   pub kept : Told KeepsFirst z w
   -- Nothing goes out of the first one. Unless a call on a device failed, the runs on both ended where the next ones begin, or did nothing but
   -- maybe a sync.

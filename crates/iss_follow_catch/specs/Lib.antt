@@ -1,4 +1,5 @@
 pub mod Rooms
 pub mod Committing
 pub mod Behind
+pub mod Writing
 pub mod Catching

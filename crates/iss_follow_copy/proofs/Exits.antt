@@ -2,6 +2,7 @@
 use Rattle.std.proofs.Common.{◌≡◌, ◌+◌, ◌^◌, ◌<◌, ◌≤◌, ℕ, inr, List, length, Option, Ok, Err, refl, sym, ap, subst, ◌∙◌, arith}
 use Rattle.iss_edge.specs.World.{World, Told, Faults, Later, Rose}
 use Rattle.iss_edge.specs.Calls.{Same}
+use Rattle.iss_edge.specs.Puts.{Puts}
 use Rattle.iss_edge.proofs.Tolds.{told_map, told_self, same_self, later_self}
 use Rattle.iss_journal.specs.declared.fault.JournalFault.{JournalFault}
 use Rattle.iss_journal.specs.declared.fault.JournalFault.TheVariants as journal
@@ -9,7 +10,7 @@ use Rattle.iss_journal.specs.Answers.{DiskCause, DiskAlone}
 use Rattle.iss_journal.proofs.Formats.{Sized, told_sized}
 use Rattle.iss_halves.specs.Forms.{Form, Seat}
 use Rattle.iss_halves.specs.Halves.{half_size, IsHalvesSize}
-use Rattle.iss_halves.specs.Making.{halves_tail, TailMakes, TailMakesGood, IsTailFor}
+use Rattle.iss_halves.specs.Making.{halves_tail, halves_puts, TailMakes, TailMakesGood, IsTailFor}
 use Rattle.iss_model.specs.declared.input.Record.{Record}
 use Rattle.iss_standing.specs.Standing.{image_after, DeviceStandsFor}
 use Rattle.iss_standing.proofs.Few.{few_stand}
@@ -26,7 +27,7 @@ use Rattle.iss_follow_runs.specs.Causes.{BothTold}
 use Rattle.iss_follow_runs.specs.Holdings.{image_of}
 use Rattle.iss_follow_runs.proofs.Images.{image_opened, instance_opened}
 use Rattle.iss_follow_runs.proofs.Tellings.{status_of, not_status, caused_first, told_unopened_moments, told_unopened_alone, told_unopened_ends, told_unopened_refuses, told_opened_moments, told_opened_records, told_opened_alone, told_opened_ends, told_opened_refuses}
-use Rattle.iss_follow_copy.specs.Copies.{MakesPart}
+use Rattle.iss_follow_copy.specs.Copies.{MakesPart, MakesAll}
 use Rattle.iss_follow_copy.specs.Copying.{RoomExactly, CopyOn, CopyRun, MakesSecond, EndsAsCopy, CopyDone}
 use Rattle.iss_follow_copy.proofs.Copies.{copies_good, copy_made, nothing_copied, nothing_made, instance_small}
 
@@ -69,6 +70,7 @@ copy_other_size size extent f g x z other =
       ended = λ six. told_map ReadsAlone EndsKept x x ends_alone (same_alone x x same);
       copied = told_unwritten 4 Same x x z (λ e. absurd cc) same;
       other_part = told_unmade Same x x z same;
+      other_whole = λ e. absurd cc;
     }
 
 -- ---- the first device didn't open
@@ -113,6 +115,7 @@ copy_unopened T fault size extent before now g x y z same opens good reads cause
       ended = λ six. told_unopened_ends x y StoreNow fault six (refused_so T fault (Told ReadsAlone x y) reads);
       copied = told_unwritten (status_of fault) OpensGood x y z (not_zero fault) good;
       other_part = told_unmade OpensGood x y z good;
+      other_whole = λ e. absurd (not_zero fault e);
     }
 
 -- ---- it did
@@ -133,6 +136,7 @@ module _ (s : StoreNow) (size extent : ℕ) (before now : Faults) (x y : Option 
         ended = λ six. told_opened_ends x y s opened;
         copied = told_unwritten 7 (OpenedAs s) x y z (λ e. absurd cc) opened;
         other_part = told_unmade (OpenedAs s) x y z opened;
+        other_whole = λ e. absurd cc;
       }
 
   module _ (image : List ℕ) (is : image ≡ image_of s.core) where
@@ -159,6 +163,7 @@ module _ (s : StoreNow) (size extent : ℕ) (before now : Faults) (x y : Option 
           ended = λ six. told_opened_ends x y s opened;
           copied = told_unwritten 9 (OpenedAs s) x y z (λ e. absurd cc) opened;
           other_part = told_unmade (OpenedAs s) x y z opened;
+          other_whole = λ e. absurd cc;
         }
 
     module _ (tail : List ℕ) (other_before other_now : Faults) (z w : Option World) (least : 27 ≤ size) (most : size ≤ 2 ^ 32) (fits : 5 + length image ≤ half_size size) (spelled : tail ≡ halves_tail s.core.instance image) (sized : Sized extent z) where
@@ -196,23 +201,39 @@ module _ (s : StoreNow) (size extent : ℕ) (before now : Faults) (x y : Option 
               made = λ e. copy_made form.instance rs stands.form_is.small stands.history few c d (halves_sized c long) (makes form.instance (image_after rs) (tail_for c long));
             }
 
-      -- whatever stands on the first device, that is all that was done on the second
-      part_made : (a b c d : World) → OpenedAs s a b → length c.device ≡ extent → TailMakesGood tail c d → MakesPart c d
-      part_made a b c d o long good =
+      -- whatever stands on the first device, the tail is that of its image
+      own_tail : (a b c : World) → OpenedAs s a b → length c.device ≡ extent → IsTailFor s.core.instance image tail c.device
+      own_tail a b c o long =
           let whole : length c.device ≡ size = long ∙ same in
-          let its : IsTailFor s.core.instance image tail c.device =
           record {
             is = spelled;
             fits = subst (λ (n : ℕ). 5 + length image ≤ half_size n) (sym whole) fits;
             most = omega (arith, whole, most);
             small = instance_small s a.device o.opens;
-          } in
-          record { instance = s.core.instance; image = image; part = (good s.core.instance image its).part }
+          }
+
+      -- and to make that one is all that was done on the second
+      part_made : (a b c d : World) → OpenedAs s a b → length c.device ≡ extent → TailMakesGood tail c d → MakesPart c d
+      part_made a b c d o long good =
+          record { instance = s.core.instance; image = image; part = (good s.core.instance image (own_tail a b c o long)).part }
+
+      all_made : (a b c d : World) → OpenedAs s a b → length c.device ≡ extent → TailMakes tail c d → MakesAll a b c d
+      all_made a b c d o long makes =
+          record {
+            store = s;
+            opens = o.opens;
+            made = subst (λ (l : List ℕ). Puts (halves_puts s.core.instance l) c d) is (makes s.core.instance image (own_tail a b c o long)).made;
+          }
 
       other_makes : Told (TailMakesGood tail) z w → BothTold MakesSecond x y z w
       other_makes good =
           told_map (OpenedAs s) (λ a b. Told MakesPart z w) x y
           (λ a b o. told_sized extent (TailMakesGood tail) MakesPart z w sized (λ c d long g. part_made a b c d o long g) good) opened
+
+      other_all : Told (TailMakes tail) z w → BothTold MakesAll x y z w
+      other_all makes =
+          told_map (OpenedAs s) (λ a b. Told (MakesAll a b) z w) x y
+          (λ a b o. told_sized extent (TailMakes tail) (MakesAll a b) z w sized (λ c d long g. all_made a b c d o long g) makes) opened
 
       -- the image had room
       roomy : (n : ℕ) (a b : World) → (n ≡ 9 → ⊥) → OpenedAs s a b → RoomExactly size n a b
@@ -243,6 +264,7 @@ module _ (s : StoreNow) (size extent : ℕ) (before now : Faults) (x y : Option 
                 told_sized extent (λ c d. TailMakesGood tail c d × TailMakes tail c d) (CopyRun 0 a b) z w sized (λ c d long p form seat rs stands. run_whole form seat rs a b o stands c d long p.0 p.1)
                 (told_both (TailMakesGood tail) (TailMakes tail) z w good makes)) opened;
             other_part = other_makes good;
+            other_whole = λ e. other_all makes;
           }
 
       -- a call on the second device failed
@@ -263,6 +285,7 @@ module _ (s : StoreNow) (size extent : ℕ) (before now : Faults) (x y : Option 
                 told_map (OpenedAs s) (λ a b. Told (CopyRun 6 a b) z w) x y (λ a b o.
                 told_sized extent (TailMakesGood tail) (CopyRun 6 a b) z w sized (λ c d long g form seat rs stands. run_part form seat rs a b o stands 6 c d (λ e. absurd cc) long g) good) opened;
             other_part = other_makes good;
+            other_whole = λ e. absurd cc;
           }
         where
           rose : (f : JournalFault) → DiskAlone {T = Unit {0}} (Err f) → DiskCause {T = Unit {0}} other_before other_now (Err f) → Rose other_before.disk other_now.disk

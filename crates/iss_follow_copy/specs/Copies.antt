@@ -45,6 +45,12 @@ pub record MakesPart (a b : World) : Type 0 where
   pub image : List ℕ
   pub part : PutsPart (halves_puts instance image) a b
 
+-- All of the puts that make a device in halves were made, for the image of what was opened on the first device, whether or not that has records.
+pub record MakesAll (a b c d : World) : Type 0 where
+  pub store : StoreNow
+  pub opens : OpensStore store a.device
+  pub made : Puts (halves_puts store.core.instance (image_of store.core)) c d
+
 -- What stands on a device has an image that a half of a device of this size has no room for, beside its length and a gate.
 pub record HasNoRoom (size : ℕ) (device : List ℕ) : Type 0 where
   pub store : StoreNow

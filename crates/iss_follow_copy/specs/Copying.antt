@@ -14,7 +14,7 @@ use Rattle.iss_follow_runs.specs.declared.stop.Stop.TheVariants.{Device, Output,
 use Rattle.iss_follow_runs.specs.Statuses.{exit_status}
 use Rattle.iss_follow_runs.specs.Moments.{KeepsMoments, KeepsRecords, EndsKept}
 use Rattle.iss_follow_runs.specs.Causes.{IsCaused, BothTold}
-use Rattle.iss_follow_copy.specs.Copies.{CopiesGood, CopyMade, MakesPart, HasNoRoom, HasRoom}
+use Rattle.iss_follow_copy.specs.Copies.{CopiesGood, CopyMade, MakesPart, MakesAll, HasNoRoom, HasRoom}
 
 -- Whether the image had room: exactly as the status says, and the same by the records for which the first device stands.
 pub record RoomExactly (size status : ℕ) (a b : World) : Type 0 where
@@ -70,6 +70,8 @@ pub record CopyDone {A : Type 0} (size extent : ℕ) (before now other_before ot
   pub copied : BothTold (CopyRun (exit_status result)) x y z w
   -- nothing goes out of the second device, nor is anything done on it but to make it a copy
   pub other_part : BothTold MakesSecond x y z w
+  -- at 0 all of that was done
+  pub other_whole : exit_status result ≡ DONE → BothTold MakesAll x y z w
 
 -- the same by what two outsides count and tell
 abbrev pub CopyDoneOn : {A F T : Type 0} → ℕ → (T → ℕ) → (F → Faults) → (T → Faults) → (F → Option World) → (T → Option World) → F → F → T → T → Result A Stop → Type 0

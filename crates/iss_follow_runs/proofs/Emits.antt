@@ -69,6 +69,7 @@ module _ (s : StoreNow) (a b d : World) (opening : OpenedAs s a b) (ch : Channel
       record {
         opening = opening.good.added;
         on_device = opening.good.on_device;
+        opening_is = opening.good.syncs;
         how =
             subst (λ (c : Channel). (d.trace ≡ a.trace ++ opening.good.added) ⊎ SendsPrefix c line (a.trace ++ opening.good.added) d.trace) standard
             (subst (λ (l : List ℕ). (d.trace ≡ a.trace ++ opening.good.added) ⊎ SendsPrefix ch l (a.trace ++ opening.good.added) d.trace) is sends);

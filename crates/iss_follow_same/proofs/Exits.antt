@@ -175,6 +175,7 @@ module _ (s : StoreNow) (before now : Faults) (x y : Option World) (first : Told
           record {
             opening = behind.opening.good.added;
             on_device = behind.opening.good.on_device;
+            opening_is = behind.opening.good.syncs;
             grew =
                 behind.later.trace
                 ∙ ap (λ (l : List Action). l ++ Emit ch line true ∷ []) behind.opening.good.grew

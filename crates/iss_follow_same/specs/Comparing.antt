@@ -9,7 +9,7 @@ use Rattle.iss_model.specs.declared.input.Record.{Record}
 use Rattle.iss_core.specs.Values.{CoreNow}
 use Rattle.iss_standing.specs.Standing.{image_after, DeviceStandsFor}
 use Rattle.iss_opening.specs.Values.{StoreNow}
-use Rattle.iss_opening.specs.Opening.{AreOnDevice, OpensStore}
+use Rattle.iss_opening.specs.Opening.{AreOnDevice, SyncsFirst, OpensStore}
 use Rattle.iss_device.specs.Refusals.{OnDeviceAlone}
 use Rattle.iss_follow_runs.specs.declared.stop.Stop.{Stop}
 use Rattle.iss_follow_runs.specs.declared.stop.Stop.TheVariants.{Device, Output, Disk, Memory, NoRoom, NotBehind}
@@ -25,10 +25,11 @@ use Rattle.iss_follow_same.specs.Lines.{same_line}
 abbrev pub AreSame : CoreNow → CoreNow → Type 0
 AreSame c d = (c.instance ≡ d.instance) × (image_of c ≡ image_of d)
 
--- after an opening, which is on the device alone, the line went out on channel 0 by one emit, and no more was done
+-- After an opening, which is at most a sync and then one put of a byte of 0, the line went out on channel 0 by one emit, and no more was done.
 pub record SendsLine (records : ℕ) (same : Bool) (a b : World) : Type 0 where
   pub opening : List Action
   pub on_device : AreOnDevice opening
+  pub opening_is : SyncsFirst opening
   pub grew : b.trace ≡ a.trace ++ (opening ++ Emit (record { 0 = 0 }) (same_line records same) true ∷ [])
 
 -- the line tells how many records the first device has, and whether what stands on both is the same

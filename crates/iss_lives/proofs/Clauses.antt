@@ -1,5 +1,5 @@
 -- What the programs' clauses say is what is said of runs of a device's life, and where runs end.
-use Rattle.std.proofs.Common.{◌≡◌, ℕ, inl, inr, true, false, List, [], ◌∷◌, ◌++◌, length, Some, refl, sym, subst, ◌∙◌, append-nil}
+use Rattle.std.proofs.Common.{◌≡◌, ℕ, inl, inr, true, false, List, [], ◌∷◌, ◌++◌, length, Option, Some, refl, sym, subst, ◌∙◌, append-nil}
 use Rattle.std.specs.Prelude.{◌⊎◌}
 use Rattle.std.proofs.lemmas.List.{append_cancel_left}
 use Rattle.iss_edge.specs.declared.outside.Action.{Action}
@@ -35,7 +35,7 @@ use Rattle.iss_lives.specs.Clauses.{ClausesAreRuns, EndsCalm, RunsEndCalm, MadeD
 pub clauses_are_runs : ClausesAreRuns
 clauses_are_runs =
     record {
-      replay = λ before now a b status done. inl done.moments;
+      replay = λ before now a b h k status done. inl done.moments;
       balances = λ before now a b status done. inr (inl done.moments);
       serve = λ turns before now a b h k status done. inr (inr (inl (record { turns = turns; status = status; before = h; after = k; run = done.session })));
       copy_from = λ size extent before now other_before other_now a b z w result done. inr (inr (inr (inr (inl done.moments))));
@@ -82,11 +82,11 @@ first_so : (a b : World) → EndsFirst a b → EndedFor a b
 first_so a b first form seat rs stands =
     elim (first form seat rs stands) [
       | inl reads ↦ alone_so form rs a b reads
-      | inr ends ↦ record { last = ends.0; actions = ends.1.actions; grew = ends.1.grew; how = inr ends.1.ends }
+      | inr ends ↦ record { last = rs ++ ends.later; actions = ends.ends.actions; grew = ends.ends.grew; how = inr ends.ends.ends }
     ]
 
-replay_so : (before now : Faults) (a b : World) (status : ℕ) → ReplayDone before now (Some a) (Some b) status → (status ≡ DISK_FAULT → ⊥) → EndedFor a b
-replay_so before now a b status done other form seat rs stands =
+replay_so : (before now : Faults) (a b : World) (h k : Option (List Answered)) (status : ℕ) → ReplayDone before now (Some a) (Some b) h k status → (status ≡ DISK_FAULT → ⊥) → EndedFor a b
+replay_so before now a b h k status done other form seat rs stands =
     let on : ReplayOn status form seat rs a b = done.output form seat rs stands in
     elim (on.ended other) [
       | inl reads ↦ record { last = rs; actions = on.actions; grew = on.grew; how = inl reads }
@@ -109,13 +109,13 @@ report_so before now a b status done how form seat rs stands =
 serve_so : (turns : ℕ) (before now : Faults) (a b : World) (h k : List Answered) (status : ℕ) → ServeDone turns before now (Some a) (Some b) (Some h) (Some k) status → (status ≡ DISK_FAULT → ⊥) → EndedFor a b
 serve_so turns before now a b h k status done other form seat rs stands =
     let s = session_on_device turns form seat rs in
-    let on : ServeOn turns status form rs (session_on_device turns form seat rs) (record { world = a; heard = h }) (record { world = b; heard = k }) = done.session form seat rs stands in
+    let on : ServeOn turns status form seat rs (session_on_device turns form seat rs) (record { world = a; heard = h }) (record { world = b; heard = k }) = done.session form seat rs stands in
     record { last = records_then rs s on.happenings; actions = actions_of (on.opening ++ on.later); grew = on.grew; how = on.ended other }
 
 pub runs_end_calm : RunsEndCalm
 runs_end_calm =
     record {
-      replay = λ before now a b status done other. ends_calm a b (replay_so before now a b status done other);
+      replay = λ before now a b h k status done other. ends_calm a b (replay_so before now a b h k status done other);
       balances = λ before now a b status done how. ends_calm a b (report_so before now a b status done how);
       serve = λ turns before now a b h k status done other. ends_calm a b (serve_so turns before now a b h k status done other);
       copy_from = λ size extent before now other_before other_now a b z w result done other. ends_calm a b (kept_so a b (done.ended other));

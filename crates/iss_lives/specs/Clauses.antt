@@ -21,7 +21,7 @@ use Rattle.iss_lives.specs.Says.{IsRun}
 
 -- What the clauses of `run` and `follow` say is what is said of a run. That of `archive` is so as it stands (`TellsMoments`).
 pub record ClausesAreRuns : Type 0 where
-  pub replay : (before now : Faults) (a b : World) (status : ℕ) → ReplayDone before now (Some a) (Some b) status → IsRun a b
+  pub replay : (before now : Faults) (a b : World) (h k : Option (List Answered)) (status : ℕ) → ReplayDone before now (Some a) (Some b) h k status → IsRun a b
   pub balances : (before now : Faults) (a b : World) (status : ℕ) → ReportDone before now (Some a) (Some b) status → IsRun a b
   pub serve : (turns : ℕ) (before now : Faults) (a b : World) (h k : List Answered) (status : ℕ) → ServeDone turns before now (Some a) (Some b) (Some h) (Some k) status → IsRun a b
   pub copy_from : (size extent : ℕ) (before now other_before other_now : Faults) (a b : World) (z w : Option World) (result : Result (Unit {0}) Stop)
@@ -42,7 +42,7 @@ EndsCalm a b =
 
 -- It did so if it ended by itself with another status than 6.
 pub record RunsEndCalm : Type 0 where
-  pub replay : (before now : Faults) (a b : World) (status : ℕ) → ReplayDone before now (Some a) (Some b) status → (status ≡ DISK_FAULT → ⊥) → EndsCalm a b
+  pub replay : (before now : Faults) (a b : World) (h k : Option (List Answered)) (status : ℕ) → ReplayDone before now (Some a) (Some b) h k status → (status ≡ DISK_FAULT → ⊥) → EndsCalm a b
   pub balances : (before now : Faults) (a b : World) (status : ℕ) → ReportDone before now (Some a) (Some b) status → (status ≡ DONE) ⊎ ((status ≡ OUTPUT_FAULT) ⊎ (status ≡ OUT_OF_MEMORY)) → EndsCalm a b
   pub serve : (turns : ℕ) (before now : Faults) (a b : World) (h k : List Answered) (status : ℕ) → ServeDone turns before now (Some a) (Some b) (Some h) (Some k) status → (status ≡ DISK_FAULT → ⊥) → EndsCalm a b
   pub copy_from : (size extent : ℕ) (before now other_before other_now : Faults) (a b : World) (z w : Option World) (result : Result (Unit {0}) Stop)

@@ -50,8 +50,8 @@ of_taking form rs all texts a b m =
       grew = m.grew;
     }
 
-abbrev pub of_serving : (turns status : ℕ) (form : Form) (rs : List Record) (s : Session) (a b : Outer) → ServeOn turns status form rs s a b → Says form rs a.world b.world
-of_serving turns status form rs s a b on =
+abbrev pub of_serving : (turns status : ℕ) (form : Form) (seat : Seat) (rs : List Record) (s : Session) (a b : Outer) → ServeOn turns status form seat rs s a b → Says form rs a.world b.world
+of_serving turns status form seat rs s a b on =
     record {
       run = record {
         made = records_then rs s on.happenings;
@@ -77,7 +77,7 @@ says_of a b (inl replay) form seat rs stands =
     of_taking form rs (records_for (run_on form seat rs) rs (lines_of (a.left 0))) (texts_for (run_on form seat rs) (lines_of (a.left 0))) a b (replay form seat rs stands)
 says_of a b (inr (inl report)) form seat rs stands = of_taking form rs rs (report_texts rs) a b (report form seat rs stands)
 says_of a b (inr (inr (inl serve))) form seat rs stands =
-    of_serving serve.turns serve.status form rs (session_on_device serve.turns form seat rs) (record { world = a; heard = serve.before }) (record { world = b; heard = serve.after }) (serve.run form seat rs stands)
+    of_serving serve.turns serve.status form seat rs (session_on_device serve.turns form seat rs) (record { world = a; heard = serve.before }) (record { world = b; heard = serve.after }) (serve.run form seat rs stands)
 says_of a b (inr (inr (inr (inl tells)))) form seat rs stands = of_following form rs rs a b (tells form seat rs stands).0
 says_of a b (inr (inr (inr (inr (inl keeps))))) form seat rs stands = of_following form rs rs a b (keeps form seat rs stands).0
 says_of a b (inr (inr (inr (inr (inr first))))) form seat rs stands =

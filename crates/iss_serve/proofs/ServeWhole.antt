@@ -43,6 +43,7 @@ use Rattle.iss_device.specs.Moments.{EachMoment, EachMomentUnsynced, EachStopSta
 use Rattle.iss_device.proofs.Devices.{stands_opened, run_opened, rests_stands}
 use Rattle.iss_standing.proofs.Bodies.{first_self}
 use Rattle.iss_device.proofs.Firmly.{stops_stand}
+use Rattle.iss_device.proofs.Written.{wrote_at}
 use Rattle.iss_device.proofs.Moments.{opening_on_device, opening_is, opening_gate, trace_opened, not_opened_moments, not_opened_unsynced, opened_moments, opened_unsynced, rests_now, ends_at_rest}
 use Rattle.iss_serve.specs.Goings.{records_in, SessionGoesPart}
 use Rattle.iss_serve.specs.Runs.{EndsWith}
@@ -203,10 +204,15 @@ module _ (turns : ℕ) (form : Form) (seat : Seat) (rs : List Record) (s : Store
   silent later = opening_silent opening.good.added later opening.good.on_device
 
   pub serve_part : (status : ℕ) → (status ≡ 0 → ⊥) → (status ≡ 4 → ⊥) → (failed : Type 0) → (failed → status ≡ 6) → SessionGoesPart failed program_readers (form_under s) (seat_under s) start b d
-      → ServeOn turns status form rs (session_on_device turns form seat rs) a d
+      → ServeOn turns status form seat rs (session_on_device turns form seat rs) a d
   serve_part status not_done not_device failed of_disk p =
       let all = records_then rs start p.happenings in
       let part = part_there p.happenings p.said p.part in
+      let goes : (status ≡ 6 → ⊥) → (to : Seat) × StepsGo (form_under s) (seat_under s) to rs all p.said b.world d.world =
+      λ other. elim p.whole [
+        | inl on ↦ (on.0, goes_there on.0 p.happenings (session_then start p.happenings) p.said refl on.1)
+        | inr fails ↦ absurd (other (of_disk fails))
+      ] in
       let steps = first_steps ++ part.steps in
       let heard : d.heard ≡ a.heard ++ answers_of p.happenings = p.heard ∙ ap (λ (h : List Answered). h ++ answers_of p.happenings) quiet in
       let grew : d.world.trace ≡ a.world.trace ++ actions_of steps = trace_grew part.steps part.grew in
@@ -223,7 +229,7 @@ module _ (turns : ℕ) (form : Form) (seat : Seat) (rs : List Record) (s : Store
             ap actions_of cut ∙ actions_of-append (channel_steps steps) p.undone
             ∙ ap (λ (l : List Action). l ++ actions_of p.undone) (sym (channel_actions_are steps));
       } in
-      on_device (λ (m : Session). ServeOn turns status form rs m a d)
+      on_device (λ (m : Session). ServeOn turns status form seat rs m a d)
       (record {
         happenings = p.happenings;
         heard = heard;
@@ -236,6 +242,8 @@ module _ (turns : ℕ) (form : Form) (seat : Seat) (rs : List Record) (s : Store
         opening_gate = opening_gate form rs a.world b.world opening.good;
         grew = grew;
         done = done_at status start p.happenings (channel_steps steps) not_done (record { undone = p.undone; cut = cut });
+        synced = part.synced;
+        wrote = wrote_at form seat rs (session_records program_readers start p.happenings) all refl s opened b.world d.world p.said status part goes;
         sent = λ ch.
             let sent = serves_part_sent program_readers start a d ch serves in
             record { unsent = sent.unsent; sent = sent.sent };
@@ -246,14 +254,11 @@ module _ (turns : ℕ) (form : Form) (seat : Seat) (rs : List Record) (s : Store
             stops_stand form rs all a.world.device part.more (part.history stands.history) (λ halved. few_made all part.few) first_steps part.steps
             (opened_unsynced form seat rs s a.world b.world opening stands all p.said d.world part);
         whole = λ e. absurd (not_done e);
-        ended = λ other. elim p.whole [
-          | inl goes ↦ inr (whole_ends goes.0 all p.said part (goes_there goes.0 p.happenings (session_then start p.happenings) p.said refl goes.1))
-          | inr fails ↦ absurd (other (of_disk fails))
-        ];
+        ended = λ other. inr (whole_ends (goes other).0 all p.said part (goes other).1);
         other_device = not_device;
       })
 
-  pub serve_whole : EndsWith s turns rs b d → ServeOn turns 0 form rs (session_on_device turns form seat rs) a d
+  pub serve_whole : EndsWith s turns rs b d → ServeOn turns 0 form seat rs (session_on_device turns form seat rs) a d
   serve_whole ends =
       let p = ends.goes in
       let all = records_then rs start p.happenings in
@@ -281,7 +286,7 @@ module _ (turns : ℕ) (form : Form) (seat : Seat) (rs : List Record) (s : Store
       λ ch.
       serves_all_sent program_readers (run_at s rs) turns ends.last a d ch serves
       ∙ ap (λ (l : List ℕ). sent_on ch a.world.trace ++ l) (sent_to_last ch (steps_said start p.happenings) ends.last) in
-      on_device (λ (m : Session). ServeOn turns 0 form rs m a d)
+      on_device (λ (m : Session). ServeOn turns 0 form seat rs m a d)
       (record {
         happenings = p.happenings;
         heard = heard;
@@ -298,6 +303,8 @@ module _ (turns : ℕ) (form : Form) (seat : Seat) (rs : List Record) (s : Store
               whole = λ e. done ∙ ap (λ (m : Session). steps_said start p.happenings ++ last_steps m) (sym p.ends);
               part = λ other. absurd (other refl);
             };
+        synced = part.synced;
+        wrote = wrote_at form seat rs (session_records program_readers start p.happenings) all refl s opened b.world d.world said 0 part (λ other. (ends.seat, goes));
         sent = λ ch. record { unsent = []; sent = sym (sent ch) ∙ sym (append-nil (sent_on ch d.world.trace)) };
         history = part.history stands.history;
         moments = opened_moments form seat rs s a.world b.world opening stands all said d.world part;
@@ -325,7 +332,7 @@ module _ (turns : ℕ) (form : Form) (seat : Seat) (rs : List Record) (s : Store
 -- ---- a run that ended with its opening
 
 pub not_opened : (turns status : ℕ) (form : Form) (seat : Seat) (rs : List Record) (a b : Outer) → (status ≡ 0 → ⊥) → (status ≡ 4 → ⊥) → OpensGood a.world b.world → ((status ≡ 6 → ⊥) → ReadsAlone a.world b.world) → b.heard ≡ a.heard → DeviceStandsFor form seat rs a.world.device
-    → ServeOn turns status form rs (session_on_device turns form seat rs) a b
+    → ServeOn turns status form seat rs (session_on_device turns form seat rs) a b
 not_opened turns status form seat rs a b not_done not_device good reads quiet stands =
     let start = session_on_device turns form seat rs in
     let steps = with_levels 0 good.added ++ [] in
@@ -353,6 +360,8 @@ not_opened turns status form seat rs a b not_done not_device good reads quiet st
       opening_gate = opening_gate form rs a.world b.world good;
       grew = grew;
       done = done_at status start [] (channel_steps steps) not_done (record { undone = []; cut = sym (append-nil (channel_steps steps) ∙ none) });
+      synced = tt;
+      wrote = record { whole = λ other. refl; part = tt };
       sent = λ ch.
           let sent = serves_part_sent program_readers start a b ch part in
           record { unsent = sent.unsent; sent = sent.sent };

@@ -1,5 +1,5 @@
 -- What a run that serves does, whatever status it ends with.
-use Rattle.std.specs.Prelude.{◌≡◌, ℕ, ◌≤◌, ◌⊎◌, false, true, List, [], ◌∷◌, ◌++◌, Some, Result, Ok, Err, IfErr}
+use Rattle.std.specs.Prelude.{◌≡◌, ℕ, ◌≤◌, ◌⊎◌, false, true, List, [], ◌∷◌, ◌++◌, length, Some, Result, Ok, Err, IfErr}
 use Rattle.iss_edge.specs.declared.status.TheConstants.{DONE, INPUT_FAULT, BAD_DEVICE, DISK_FAULT, OUT_OF_MEMORY}
 use Rattle.iss_edge.specs.declared.outside.Channel.{Channel}
 use Rattle.iss_edge.specs.declared.outside.Action.{Action}
@@ -19,10 +19,12 @@ use Rattle.iss_session.specs.Turns.{waits_in}
 use Rattle.iss_session_examples.specs.Program.{program_readers}
 use Rattle.iss_standing.specs.Standing.{AreHistory, DeviceStandsFor}
 use Rattle.iss_standing.specs.Rooms.{seat_of}
+use Rattle.iss_standing.specs.Counts.{SyncedTwice}
 use Rattle.iss_standing.specs.Goings.{channel_steps}
 use Rattle.iss_opening.specs.Opening.{AreOnDevice, SyncsFirst, WritesEndGate, ReadsAlone}
 use Rattle.iss_device.specs.Runs.{run_on}
 use Rattle.iss_device.specs.Moments.{EachMoment, EachMomentUnsynced, EachStopStands, EndsAtRest}
+use Rattle.iss_device.specs.Writes.{WroteAt}
 use Rattle.iss_serve.specs.declared.fault.ServeFault.{ServeFault}
 use Rattle.iss_serve.specs.declared.fault.ServeFault.TheVariants.{Device, Wait, Disk, OutOfMemory}
 use Rattle.iss_serve.specs.Goings.{NoWaitFailed}
@@ -88,15 +90,16 @@ pub record ServedWhole (form : Form) (rs : List Record) (s : Session) (happening
   pub stands : DeviceStandsFor form (seat_of (session_then s happenings).run.room) (records_then rs s happenings) b.device
   pub ends : EndsAtRest form rs (records_then rs s happenings) actions a b
 
--- What a run with this status did that began with the session s, on a device that stands for these records. It heard what its session
--- called for, and waited at most as often as it has turns. The opening of the device writes to it and syncs it, and no more. What was
--- done on channels after it is what the session says, or a first part of it. So are the bytes on each channel. Assume that the device
--- stood firmly for its records. Then at whatever moment the run stops, the device stands for them and a first part of those that the
--- session makes. These are a history, and at least as many as the level of each text of which a byte went out. Within the opening the
--- record that was left behind may stand too. The same holds of a device with unsynced writes, once a sync of the opening has succeeded.
--- The next run may begin with what a stop leaves. At 0 all of it was done. Unless a call on the device failed, nothing was done but maybe
--- a sync, or the run ended where the next one begins.
-pub record ServeOn (turns status : ℕ) (form : Form) (rs : List Record) (s : Session) (a b : Outer) : Type 0 where
+-- What a run with this status did that began with the session s, on a device that stands for these records at this seat. It heard what its
+-- session called for, and waited at most as often as it has turns. The opening of the device writes to it and syncs it, and no more. What
+-- was done on channels after it is what the session says, or a first part of it. So are the bytes on each channel. What was done on the
+-- device after it is the puts of the records that the session makes, and no more, or at 6 a first part of those. Each of them was synced
+-- twice before a text told of it. Assume that the device stood firmly for its records. Then at whatever moment the run stops, the device
+-- stands for them and a first part of those that the session makes. These are a history, and at least as many as the level of each text of
+-- which a byte went out. Within the opening the record that was left behind may stand too. The same holds of a device with unsynced writes,
+-- once a sync of the opening has succeeded. The next run may begin with what a stop leaves. At 0 all of it was done. Unless a call on the
+-- device failed, nothing was done but maybe a sync, or the run ended where the next one begins.
+pub record ServeOn (turns status : ℕ) (form : Form) (seat : Seat) (rs : List Record) (s : Session) (a b : Outer) : Type 0 where
   pub happenings : List Happening
   pub heard : b.heard ≡ a.heard ++ answers_of happenings
   pub fits : Fits program_readers s happenings
@@ -108,6 +111,8 @@ pub record ServeOn (turns status : ℕ) (form : Form) (rs : List Record) (s : Se
   pub opening_gate : WritesEndGate form rs a.world.device (actions_of opening)
   pub grew : b.world.trace ≡ a.world.trace ++ actions_of (opening ++ later)
   pub done : DoneAt status s happenings (channel_steps (opening ++ later))
+  pub wrote : WroteAt status form seat rs (session_records program_readers s happenings) (actions_of later)
+  pub synced : SyncedTwice 0 (length rs) later
   pub sent : (ch : ℕ) → SentInPart ch (steps_said s happenings) a.world b.world
   pub history : AreHistory (records_then rs s happenings)
   pub moments : EachMoment form rs (records_then rs s happenings) opening later a.world.device
@@ -122,7 +127,7 @@ pub record ServeOn (turns status : ℕ) (form : Form) (rs : List Record) (s : Se
 abbrev pub ServeRun : ℕ → ℕ → Outer → Outer → Type 0
 ServeRun turns status a b =
     (form : Form) (seat : Seat) (rs : List Record) → DeviceStandsFor form seat rs a.world.device
-    → ServeOn turns status form rs (session_on_device turns form seat rs) a b
+    → ServeOn turns status form seat rs (session_on_device turns form seat rs) a b
 
 -- why a run that serves may end early: clients' channels and those to the gateway may fail without that
 abbrev pub EndingCause : Faults → Faults → ServeFault → Type 0

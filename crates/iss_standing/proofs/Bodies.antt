@@ -22,10 +22,10 @@ length-bodies rs = length-map rs spelling
 
 -- ---- records that come first
 
-pub first_self : (rs : List Record) → AreFirstOf rs rs
+abbrev pub first_self : (rs : List Record) → AreFirstOf rs rs
 first_self rs = record { later = []; cut = sym (append-nil rs) }
 
-pub first_then : (xs ys zs : List Record) → AreFirstOf xs ys → AreFirstOf ys zs → AreFirstOf xs zs
+abbrev pub first_then : (xs ys zs : List Record) → AreFirstOf xs ys → AreFirstOf ys zs → AreFirstOf xs zs
 first_then xs ys zs f g =
     record {
       later = f.later ++ g.later;

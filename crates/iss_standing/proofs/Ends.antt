@@ -29,3 +29,14 @@ end_more rs r = fold-append (λ (at : ℕ) (x : Record). at + need_of x) HEADER_
 
 pub needs_more : (rs : List Record) (r : Record) → needs_of (rs ++ r ∷ []) ≡ needs_of rs + need_of r
 needs_more rs r = fold-append (λ (at : ℕ) (x : Record). at + need_of x) 0 rs (r ∷ [])
+
+needs_from : (rs : List Record) (n : ℕ) → fold (λ (needs : ℕ) (r : Record). needs + need_of r) n rs ≡ n + needs_of rs
+needs_from [] n = omega arith
+needs_from (r ∷ rs) n =
+    let first : fold (λ (needs : ℕ) (x : Record). needs + need_of x) (n + need_of r) rs ≡ n + need_of r + needs_of rs = needs_from rs (n + need_of r) in
+    let again : needs_of (r ∷ rs) ≡ 0 + need_of r + needs_of rs = needs_from rs (0 + need_of r) in
+    first ∙ omega (arith, again)
+
+-- the first of records, and the others
+pub needs_first : (r : Record) (rs : List Record) → needs_of (r ∷ rs) ≡ need_of r + needs_of rs
+needs_first r rs = let all : needs_of (r ∷ rs) ≡ 0 + need_of r + needs_of rs = needs_from rs (0 + need_of r) in omega (arith, all)

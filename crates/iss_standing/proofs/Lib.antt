@@ -4,4 +4,8 @@ pub mod Ends
 pub mod Holds
 pub mod Few
 pub mod NextRecords
+pub mod Counts
+pub mod Turns
+pub mod Synced
 pub mod Goings
+pub mod Rewritten

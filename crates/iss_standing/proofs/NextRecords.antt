@@ -19,7 +19,7 @@ with_record rs r = rs ++ r ∷ []
 pub one_more : (rs : List Record) (r : Record) → length (with_record rs r) ≡ length rs + 1
 one_more rs r = length-append {A = Record} rs (r ∷ [])
 
-pub first_one : (rs : List Record) (r : Record) → AreFirstOf rs (with_record rs r)
+abbrev pub first_one : (rs : List Record) (r : Record) → AreFirstOf rs (with_record rs r)
 first_one rs r = record { later = r ∷ []; cut = refl }
 
 -- ---- the record that comes next

@@ -1,3 +1,5 @@
 pub mod Standing
 pub mod Rooms
+pub mod Writes
+pub mod Counts
 pub mod Goings

@@ -7,5 +7,6 @@
 mod laws;
 
 pub use laws::{
-    devices_stand_for_few_records, parts_of_a_run_make_one, the_journal_has_the_sizes_of_the_model,
+    devices_stand_for_few_records, devices_turn_when_full, parts_of_a_run_make_one,
+    puts_are_counted, texts_wait_for_syncs, the_journal_has_the_sizes_of_the_model,
 };

@@ -36,7 +36,7 @@ use Rattle.iss_store.specs.Values.{Plan, IsFramed, is_told_time}
 use Rattle.iss_store.specs.Planning.{image_now, turns_for, store_turned, store_for, IsPlanOf, IsKept}
 use Rattle.iss_store.specs.Putting.{stood, IsPutAt, FailsByDisk}
 use Rattle.iss_store.specs.Committing.{Commits, Keeps, KeepsPart, CommitCause, WhereItLasts}
-use Rattle.iss_store.proofs.Seats.{store_here, gate_has_room, turns_there, store_there, turn_has_its_room, going_here, part_here, going_there, part_there}
+use Rattle.iss_store.proofs.Seats.{stays_here, store_here, gate_has_room, turns_there, store_there, turn_has_its_room, going_here, part_here, going_there, part_there}
 use Rattle.iss_store.proofs.Moves.{turns_halved}
 
 -- ---- a frame
@@ -54,7 +54,7 @@ module _ (s : StoreNow) (is : IsStore s) (p : Plan) (plan : IsPlanOf s p) (frame
   pub part_told_here : p.half ≡ None → Told (AppendsGood s.place frame) x y → Told (KeepsPart s r) x y
   part_told_here none told =
       told_map (AppendsGood s.place (append_bytes (spelling r))) (KeepsPart s r) x y
-      (λ a b appends. record { left = appends.part.left; goes = λ rs stands. part_here s is p plan framed.spelled a b rs stands appends })
+      (λ a b appends. record { left = appends.part.left; goes = λ rs stands. part_here s is p plan framed.spelled a b rs stands (stays_here s p plan none) appends })
       (subst (λ (bytes : List ℕ). Told (AppendsGood s.place bytes) x y) framed.framed told)
 
   pub kept_told_here : p.half ≡ None → Told (AppendsGoing s.place frame) x y → Told (Keeps s r) x y
@@ -64,7 +64,7 @@ module _ (s : StoreNow) (is : IsStore s) (p : Plan) (plan : IsPlanOf s p) (frame
         left = appends.made.left;
         goes = λ rs stands.
             subst (λ (t : StoreNow). StepsGo (form_under s) (seat_under s) (seat_under t) rs (with_record rs r) [] a b) (sym (store_here s p plan none))
-            (going_here s is p plan framed.spelled a b rs stands appends);
+            (going_here s is p plan framed.spelled a b rs stands (stays_here s p plan none) appends);
       })
       (subst (λ (bytes : List ℕ). Told (AppendsGoing s.place bytes) x y) framed.framed told)
 
@@ -77,7 +77,7 @@ module _ (s : StoreNow) (is : IsStore s) (p : Plan) (plan : IsPlanOf s p) (frame
       told_map (TurnedGood s.layout half (append_bytes (spelling r))) (KeepsPart s r) x y
       (λ a b turns. record {
         left = turns.part.left;
-        goes = λ rs stands. part_there s is p plan framed.spelled a b rs stands half (turns_there s p plan half some).1 (halved_there half some) turns;
+        goes = λ rs stands. part_there s is p plan framed.spelled a b rs stands half (turns_there s p plan half some).1 (turns_there s p plan half some).0 (halved_there half some) turns;
       })
       (subst (λ (bytes : List ℕ). Told (TurnedGood s.layout half bytes) x y) framed.framed told)
 
@@ -88,7 +88,7 @@ module _ (s : StoreNow) (is : IsStore s) (p : Plan) (plan : IsPlanOf s p) (frame
         left = turns.made.left;
         goes = λ rs stands.
             subst (λ (t : StoreNow). StepsGo (form_under s) (seat_under s) (seat_under t) rs (with_record rs r) [] a b) (sym (store_there s p plan half some))
-            (going_there s is p plan framed.spelled a b rs stands half (turns_there s p plan half some).1 (halved_there half some) turns);
+            (going_there s is p plan framed.spelled a b rs stands half (turns_there s p plan half some).1 (turns_there s p plan half some).0 (halved_there half some) turns);
       })
       (subst (λ (bytes : List ℕ). Told (TurnedGoing s.layout half bytes) x y) framed.framed told)
 

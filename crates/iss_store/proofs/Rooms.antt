@@ -55,7 +55,7 @@ next_body rs all r spelled first =
     }
 
 -- the gate is as far after the first one as the records after the point need
-gate_by_needs : (form : Form) (seat : Seat) (rs : List Record) (place : Place) → seat.point ≤ length rs → EndsHere form seat (saved_of rs) (length rs) place
+pub gate_by_needs : (form : Form) (seat : Seat) (rs : List Record) (place : Place) → seat.point ≤ length rs → EndsHere form seat (saved_of rs) (length rs) place
     → place.gate ≡ first_gate form seat (image_after (take seat.point rs)) + needs_of (drop seat.point rs)
 gate_by_needs form seat rs place low ends =
     ends.gate

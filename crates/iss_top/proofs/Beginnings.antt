@@ -67,7 +67,7 @@ waits_first : (s : StoreNow) (rs : List Record) → at_level (length rs) (texts_
 waits_first s rs =
     ap (λ (l : List Record). at_level (length l) (texts_pending_on_book s.core.instance rs)) (sym (records_history rs))
 
-waits : (s : StoreNow) (rs : List Record) → texts_pending s ≡ texts_pending_on_book s.core.instance rs → at_level (length rs) (texts_pending s) ≡ first_texts (run_at s rs)
+pub waits : (s : StoreNow) (rs : List Record) → texts_pending s ≡ texts_pending_on_book s.core.instance rs → at_level (length rs) (texts_pending s) ≡ first_texts (run_at s rs)
 waits s rs on_book = ap (at_level (length rs)) on_book ∙ waits_first s rs
 
 pub begins_goes : (s : StoreNow) (rs : List Record) (b c : World) → texts_pending s ≡ texts_pending_on_book s.core.instance rs → Says (texts_pending s) b c → TextsGo (form_under s) (seat_under s) (seat_under s) rs rs (first_texts (run_at s rs)) b c

@@ -106,7 +106,7 @@ goes_part failed form x y rs rs' t a b f =
 
 -- ---- texts that are said when this many records stand
 
-emits_still : (texts : List (List ℕ)) → AreStill (emits texts)
+pub emits_still : (texts : List (List ℕ)) → AreStill (emits texts)
 emits_still [] = tt
 emits_still (text ∷ texts) = (refl, emits_still texts)
 
@@ -128,7 +128,7 @@ still_last rest last ended =
       | inr fails ↦ subst AreStill (sym fails.action) (refl, tt)
     ]
 
-still_out : (texts : List (List ℕ)) (actions : List Action) → GoOut texts actions → AreStill actions
+pub still_out : (texts : List (List ℕ)) (actions : List Action) → GoOut texts actions → AreStill actions
 still_out texts actions out =
     subst AreStill (sym out.done) (still_append (emits out.whole) out.last (emits_still out.whole) (still_last out.rest out.last out.ended))
 
@@ -262,7 +262,7 @@ outputs_by (Emit ch bytes ok) level steps rest = ap (λ (l : List Action). cond 
 outputs_by (Dial ch) level steps rest = rest
 outputs_by (Close ch) level steps rest = rest
 
-outputs_channels : (steps : List Step) → outputs_of (actions_of steps) ≡ outputs_of (actions_of (channel_steps steps))
+pub outputs_channels : (steps : List Step) → outputs_of (actions_of steps) ≡ outputs_of (actions_of (channel_steps steps))
 outputs_channels [] = refl
 outputs_channels (step ∷ steps) = outputs_by step.action step.level steps (outputs_channels steps)
 

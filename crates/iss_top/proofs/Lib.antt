@@ -31,3 +31,7 @@ pub mod ReportRuns
 pub mod ToldReports
 pub mod ServedStatuses
 pub mod Drilled
+pub mod Hears
+pub mod ToldHears
+pub mod Promptly
+pub mod ToldPromptly

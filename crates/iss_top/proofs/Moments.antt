@@ -35,6 +35,7 @@ moments_unopened form seat rs more texts a b good stands legal =
       first = record { later = more; cut = refl };
       history = stands.history;
       levels = (levels_of texts, ap (λ (l : List ℕ). l ++ levels_of texts) (sym (levels_behind good.added [] good.on_device)));
+      synced = tt;
       each = not_opened_moments form seat rs a b good stands;
       unsynced = not_opened_unsynced form seat rs a b good stands;
       stops =
@@ -62,6 +63,7 @@ moments_opened failed form seat rs all rs' texts s a b d opening stands legal fi
         part_levels (form_under s) (seat_under s) rs rs' texts b d failed goes
             ∙ ap (λ (l : List ℕ). l ++ goes.levels.0) (sym (levels_behind opening.good.added goes.part.steps opening.good.on_device)),
       );
+      synced = goes.part.synced;
       each = opened_moments form seat rs s a b opening stands rs' goes.said d goes.part;
       unsynced = opened_unsynced form seat rs s a b opening stands rs' goes.said d goes.part;
       stops =

@@ -13,6 +13,7 @@ use Rattle.iss_opening.specs.Values.{StoreNow, form_under, seat_under}
 use Rattle.iss_opening.specs.Standing.{IsOpenedOn}
 use Rattle.iss_opening.specs.Opening.{OpensGood, OpenedAs, ReadsAlone}
 use Rattle.iss_standing.specs.Goings.{StepsGo}
+use Rattle.iss_standing.proofs.Goings.{no_work}
 use Rattle.iss_texts.specs.Sending.{emits, Says, SaysSome}
 use Rattle.iss_texts.proofs.Saying.{all_out, says_all}
 use Rattle.iss_standing.proofs.Bodies.{first_self}
@@ -21,7 +22,7 @@ use Rattle.iss_device.proofs.Devices.{stands_opened, rests_stands}
 use Rattle.iss_device.proofs.Moments.{ends_at_rest}
 use Rattle.iss_top.specs.Replays.{MomentsOf}
 use Rattle.iss_top.specs.Reports.{report_lines, report_texts, ReportOn}
-use Rattle.iss_top.proofs.Goings.{some_goes, says_goes_part}
+use Rattle.iss_top.proofs.Goings.{emits_still, still_out, some_goes, says_goes_part}
 use Rattle.iss_top.proofs.Moments.{moments_unopened, moments_opened}
 use Rattle.iss_top.proofs.Seats.{same_room_stands}
 
@@ -43,6 +44,9 @@ unopened_report_on status form seat rs a b not_done not_device not_output good r
       sent = [];
       grew = good.grew ∙ ap (λ (l : List Action). a.trace ++ l) (sym (append-nil good.added));
       on_device = good.on_device;
+      opening_is = good.syncs;
+      opening_gate = good.gate form rs;
+      wrote = refl;
       out = record { whole = []; rest = report_lines rs; cut = refl; last = []; done = refl; ended = inl refl };
       whole = λ e. absurd (not_done e);
       stands = λ e. elim e [ inl done ↦ absurd (not_done done) | inr failed ↦ absurd (not_output failed) ];
@@ -101,6 +105,9 @@ module _ (form : Form) (seat : Seat) (rs : List Record) (s : StoreNow) (a b d : 
         sent = says.sends.actions;
         grew = behind_opening says.sends.actions says.sends.grew;
         on_device = opening.good.on_device;
+        opening_is = opening.good.syncs;
+        opening_gate = opening.good.gate form rs;
+        wrote = no_work says.sends.actions (still_out (report_lines rs) says.sends.actions says.sends.out);
         out = says.sends.out;
         whole = λ e. absurd (not_done e);
         stands = λ e. subst (λ (device : List ℕ). DeviceStandsFor form seat rs device) (sym says.sends.device) still_stands;
@@ -118,6 +125,9 @@ module _ (form : Form) (seat : Seat) (rs : List Record) (s : StoreNow) (a b d : 
         sent = emits (report_lines rs);
         grew = behind_opening (emits (report_lines rs)) says.sends.grew;
         on_device = opening.good.on_device;
+        opening_is = opening.good.syncs;
+        opening_gate = opening.good.gate form rs;
+        wrote = no_work (emits (report_lines rs)) (emits_still (report_lines rs));
         out = all_out (report_lines rs);
         whole = λ e. refl;
         stands = λ e. subst (λ (device : List ℕ). DeviceStandsFor form seat rs device) (sym says.sends.device) still_stands;

@@ -27,12 +27,13 @@ use Rattle.iss_standing.proofs.NextRecords.{legal_append}
 use Rattle.iss_device.specs.Moments.{EndsAtRest}
 use Rattle.iss_device.proofs.Moments.{rests_now, ends_at_rest}
 use Rattle.iss_device.proofs.Devices.{stands_opened, run_opened, rests_stands}
+use Rattle.iss_device.proofs.Written.{goes_writes, wrote_at}
 use Rattle.iss_top.specs.Lines.{is_blank, line_parts, lines_of, all_but_last}
 use Rattle.iss_top.specs.Dry.{each_bytes}
 use Rattle.iss_top.specs.Reader.{TakesIn}
 use Rattle.iss_standing.specs.Goings.{AreFirstOf}
 use Rattle.iss_top.specs.Replaying.{is_of_run, outputs_of, text_steps, TextsGoPart, GoesWhole, RunsAs}
-use Rattle.iss_top.specs.Replays.{texts_for, records_for, seat_after, Replayed, EndsSomewhere, ReplayOn, EveryMoment}
+use Rattle.iss_top.specs.Replays.{texts_for, records_for, seat_after, Wrote, WrotePart, Replayed, EndsSomewhere, ReplayOn, EveryMoment}
 use Rattle.iss_top.proofs.ToldLines.{readings_of, told_readings, told_from_start, transcript_told, told_records}
 use Rattle.iss_top.proofs.Beginnings.{outputs_behind, kinds_behind}
 use Rattle.iss_top.proofs.Goings.{part_out, part_kinds, goes_outputs}
@@ -83,6 +84,17 @@ not_opened_on status form seat rs a b not_done not_input not_device not_long goo
       long = (λ e. absurd (not_long e), λ e. absurd (omega (arith, e)));
       bound = omega arith;
       ended = λ other. inl (reads other);
+      wrote =
+          record {
+            opening = good.added;
+            opening_is = good.syncs;
+            opening_gate = good.gate form rs;
+            rest = [];
+            cut = sym (append-nil good.added);
+            later = [];
+            first = record { later = made_later form seat rs a; cut = ap (λ (l : List Record). l ++ made_later form seat rs a) (sym (append-nil rs)) };
+            made = record { whole = λ other. refl; part = tt };
+          };
       other_device = not_device;
     }
 
@@ -138,6 +150,38 @@ module _ (form : Form) (seat : Seat) (rs : List Record) (s : StoreNow) (status :
       ∙ ap seat_of (whole.room ∙ ap (λ (r : Response). r.run.room) (told_readings (run_at s rs) parts))
       ∙ ap (λ (k : Run). seat_after k (readings_of parts)) same_run
 
+  -- the work on the device, for exactly these parts and for what was done of the input
+  wrote : (parts : List (List ℕ)) → GoesWhole s rs (told_from_start (run_at s rs) parts) b d → Wrote form seat rs (accepted_records (run_on form seat rs) (readings_of parts)) a.device done
+  wrote parts whole =
+      let made = accepted_records (run_on form seat rs) (readings_of parts) in
+      let told = told_from_start (run_at s rs) parts in
+      record {
+        opening = opening.good.added;
+        opening_is = opening.good.syncs;
+        opening_gate = opening.good.gate form rs;
+        rest = actions_of runs.goes.part.steps;
+        cut = refl;
+        made =
+            goes_writes form seat rs made told.run.history.records (records_are parts) s opened b d (text_steps told.texts) whole.to (actions_of runs.goes.part.steps)
+            runs.goes.part.grew whole.goes;
+      }
+
+  wrote_part : AreFirstOf runs.rs' (made_by form seat rs a) → WrotePart status form seat rs (made_by form seat rs a) a.device done
+  wrote_part first =
+      let more = runs.goes.part.more in
+      record {
+        opening = opening.good.added;
+        opening_is = opening.good.syncs;
+        opening_gate = opening.good.gate form rs;
+        rest = actions_of runs.goes.part.steps;
+        cut = refl;
+        later = more.later;
+        first = subst (λ (l : List Record). AreFirstOf l (made_by form seat rs a)) more.cut first;
+        made =
+            wrote_at form seat rs more.later runs.rs' more.cut s opened b d runs.goes.said status runs.goes.part
+            (λ other. elim runs.goes.whole [ inl on ↦ (on.to, on.goes) | inr fails ↦ absurd (other fails) ]);
+      }
+
   -- what was done for exactly these parts
   replayed : (parts : List (List ℕ)) → GoesWhole s rs (told_from_start (run_at s rs) parts) b d → Replayed form seat rs (written parts) done a d
   replayed parts whole =
@@ -159,6 +203,7 @@ module _ (form : Form) (seat : Seat) (rs : List Record) (s : StoreNow) (status :
             subst (λ (l : List Record). EndsAtRest form rs l done a d) (records_are parts)
             (subst (λ (l : List Action). EndsAtRest form rs told.run.history.records (opening.good.added ++ l) a d) (sym same)
             (ends_at_rest form seat rs s a b opening stands whole.to told.run.history.records (text_steps told.texts) d whole.goes));
+        wrote = wrote parts whole;
       }
 
   -- ---- where it ends
@@ -213,6 +258,7 @@ module _ (form : Form) (seat : Seat) (rs : List Record) (s : StoreNow) (status :
         long = long;
         bound = bound;
         ended = ended_somewhere;
+        wrote = wrote_part made_first;
         other_device = not_device;
       }
 

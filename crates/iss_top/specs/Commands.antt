@@ -12,6 +12,7 @@ use Rattle.iss_top.specs.declared.words.Command.{Command}
 use Rattle.iss_top.specs.Words.{statuses}
 use Rattle.iss_top.specs.Runs.{DryRun, EmitsTexts, StopsAtLines, EndsWell}
 use Rattle.iss_top.specs.Replays.{ReplayRun, EveryMomentStands, ReplayEndsWell, TranscriptsContinue}
+use Rattle.iss_top.specs.Promptness.{HearsPromptly, RepliesPromptly, dry_owed}
 use Rattle.iss_top.specs.Reports.{ReportRun, ReportMomentStands, ReportEndsWell}
 use Rattle.iss_top.specs.DrillRuns.{DrillRun, DrillEndsWell}
 use Rattle.iss_top.specs.FormatRuns.{FormatRun}
@@ -29,7 +30,7 @@ pub record StatusOf {E : Type 0} (asked : Option Command) (a b : E) (before now 
   pub disk_fault : status ≡ DISK_FAULT → Rose before.disk now.disk
 
 -- What a dry run with this status did.
-pub record DryDone (before now : Faults) (x y : Option World) (status : ℕ) : Type 0 where
+pub record DryDone (before now : Faults) (x y : Option World) (h k : Option (List Answered)) (status : ℕ) : Type 0 where
   -- It wrote the transcript of the input's lines, or a prefix of it. The status is 8 exactly if more than 4294967296 bytes were taken.
   pub output : Told (DryRun status) x y
   -- each text of the transcript went out by an emit of its own, in their order
@@ -38,9 +39,11 @@ pub record DryDone (before now : Faults) (x y : Option World) (status : ℕ) : T
   pub stopped : Told (StopsAtLines status) x y
   -- if the outside isn't at fault and the input isn't too long, it came to its end, or an allocation failed
   pub complete : Told (EndsWell before now status) x y
+  -- Whenever it took more of its input, all that the lines are told that had ended until then had gone out. That is so at every status.
+  pub prompt : Told (HearsPromptly dry_owed) (outer_of x h) (outer_of y k)
 
 -- What a run with this status did that took lines on a device.
-pub record ReplayDone (before now : Faults) (x y : Option World) (status : ℕ) : Type 0 where
+pub record ReplayDone (before now : Faults) (x y : Option World) (h k : Option (List Answered)) (status : ℕ) : Type 0 where
   -- On a device that stood for records, it wrote the transcript of the lines on them, or a prefix of it. At 0, 3 and 8 the device stands
   -- for those records and the ones that the lines made, at the seat of the room that is left.
   pub output : Told (ReplayRun status) x y
@@ -54,6 +57,9 @@ pub record ReplayDone (before now : Faults) (x y : Option World) (status : ℕ) 
   pub refused : Told (RefusesExactly status) x y
   -- If the outside isn't at fault, the input isn't too long and the device stood for records, it came to its end, or an allocation failed.
   pub complete : Told (ReplayEndsWell before now status) x y
+  -- On a device that stood for records: whenever it took more of its input, the texts with which the run begins and all that the lines are told
+  -- that had ended until then had gone out. That is so at every status.
+  pub prompt : Told RepliesPromptly (outer_of x h) (outer_of y k)
 
 -- What a run with this status did that reports what stands on a device.
 pub record ReportDone (before now : Faults) (x y : Option World) (status : ℕ) : Type 0 where
@@ -99,12 +105,12 @@ abbrev pub StatusOn : {E : Type 0} → (E → Faults) → E → E → Option Com
 StatusOn faults a b asked status = StatusOf asked a b (faults a) (faults b) status
 
 -- what a dry run did
-abbrev pub DryDoneOn : {E : Type 0} → (E → Faults) → (E → Option World) → E → E → ℕ → Type 0
-DryDoneOn faults told a b status = DryDone (faults a) (faults b) (told a) (told b) status
+abbrev pub DryDoneOn : {E : Type 0} → (E → Faults) → (E → Option World) → (E → Option (List Answered)) → E → E → ℕ → Type 0
+DryDoneOn faults told heard a b status = DryDone (faults a) (faults b) (told a) (told b) (heard a) (heard b) status
 
 -- what a run did that took lines on a device
-abbrev pub ReplayDoneOn : {E : Type 0} → (E → Faults) → (E → Option World) → E → E → ℕ → Type 0
-ReplayDoneOn faults told a b status = ReplayDone (faults a) (faults b) (told a) (told b) status
+abbrev pub ReplayDoneOn : {E : Type 0} → (E → Faults) → (E → Option World) → (E → Option (List Answered)) → E → E → ℕ → Type 0
+ReplayDoneOn faults told heard a b status = ReplayDone (faults a) (faults b) (told a) (told b) (heard a) (heard b) status
 
 -- what a run did that reports
 abbrev pub ReportDoneOn : {E : Type 0} → (E → Faults) → (E → Option World) → E → E → ℕ → Type 0

@@ -11,6 +11,8 @@ pub mod FormatRuns
 pub mod Tells
 pub mod Replaying
 pub mod Replays
+pub mod Hearing
+pub mod Promptness
 pub mod Reports
 pub mod DrillRuns
 pub mod Commands

@@ -13,11 +13,14 @@ use Rattle.iss_model.specs.run.Transcripts.{Reading, Text}
 use Rattle.iss_halves.specs.Forms.{Form, Seat}
 use Rattle.iss_standing.specs.Standing.{AreHistory, DeviceStandsFor}
 use Rattle.iss_standing.specs.Rooms.{seat_of}
+use Rattle.iss_standing.specs.Writes.{WritesRecords}
+use Rattle.iss_standing.specs.Counts.{SyncedTwice}
 use Rattle.iss_standing.specs.Goings.{AreFirstOf}
 use Rattle.iss_opening.specs.Opening.{AreOnDevice, SyncsFirst, WritesEndGate, ReadsAlone}
 use Rattle.iss_texts.specs.Sending.{emits, GoOut}
 use Rattle.iss_device.specs.Runs.{run_on}
 use Rattle.iss_device.specs.Moments.{EachMoment, EachMomentUnsynced, EachStopStands, EndsAtRest}
+use Rattle.iss_device.specs.Writes.{WroteAt}
 use Rattle.iss_top.specs.Lines.{lines_of, ended_lines}
 use Rattle.iss_top.specs.Dry.{reading_of, each_bytes}
 use Rattle.iss_top.specs.Reader.{TakesIn}
@@ -35,6 +38,27 @@ records_for s rs lines = rs ++ accepted_records s (map reading_of lines)
 abbrev pub seat_after : Run → List Reading → Seat
 seat_after s readings = seat_of (run_after s readings).room
 
+-- What was done on the device was the opening, and then just the puts of these later records, one record after the other.
+pub record Wrote (form : Form) (seat : Seat) (rs later : List Record) (device : List ℕ) (actions : List Action) : Type 0 where
+  pub opening : List Action
+  pub opening_is : SyncsFirst opening
+  pub opening_gate : WritesEndGate form rs device opening
+  pub rest : List Action
+  pub cut : actions ≡ opening ++ rest
+  pub made : WritesRecords form seat rs later rest
+
+-- What was done on the device by a run with this status was the opening, and then just the puts of some first ones of all records that were
+-- to come. If a call on the device failed, it was a first part of that.
+pub record WrotePart (status : ℕ) (form : Form) (seat : Seat) (rs all : List Record) (device : List ℕ) (actions : List Action) : Type 0 where
+  pub opening : List Action
+  pub opening_is : SyncsFirst opening
+  pub opening_gate : WritesEndGate form rs device opening
+  pub rest : List Action
+  pub cut : actions ≡ opening ++ rest
+  pub later : List Record
+  pub first : AreFirstOf (rs ++ later) all
+  pub made : WroteAt status form seat rs later rest
+
 -- What was done for exactly these lines. The texts with which the run begins and those of each line went out, each by an emit of its own.
 -- The device stands for the records that stood and those that the lines made, at the seat of the room that they leave. If the run began at
 -- rest, the next one begins there.
@@ -42,6 +66,7 @@ pub record Replayed (form : Form) (seat : Seat) (rs : List Record) (lines : List
   pub out : outputs_of actions ≡ emits (each_bytes (texts_for (run_on form seat rs) lines))
   pub stands : DeviceStandsFor form (seat_after (run_on form seat rs) (map reading_of lines)) (records_for (run_on form seat rs) rs lines) b.device
   pub ends : EndsAtRest form rs (records_for (run_on form seat rs) rs lines) actions a b
+  pub wrote : Wrote form seat rs (accepted_records (run_on form seat rs) (map reading_of lines)) a.device actions
 
 -- The run ended where the next one begins, with all records that stood and some first ones of those that the input makes. Together they
 -- are a history.
@@ -72,6 +97,7 @@ pub record ReplayOn (status : ℕ) (form : Form) (seat : Seat) (rs : List Record
   pub long : (status ≡ INPUT_TOO_LONG) ↔ (length took ≡ MOST_INPUT + 1)
   pub bound : length took ≤ MOST_INPUT + 1
   pub ended : (status ≡ DISK_FAULT → ⊥) → EndsSomewhere form seat rs actions a b
+  pub wrote : WrotePart status form seat rs (records_for (run_on form seat rs) rs (lines_of (a.left 0))) a.device actions
   pub other_device : status ≡ BAD_DEVICE → ⊥
 
 -- whichever records the device stands for, if any
@@ -95,6 +121,8 @@ pub record MomentsOf (form : Form) (rs all : List Record) (texts : List Text) (a
   pub history : AreHistory made
   -- each text that was sent has its level, in the order of the texts
   pub levels : (unsent : List ℕ) × (levels_of texts ≡ output_levels (opening ++ later) ++ unsent)
+  -- after the opening each record was synced twice before a text told of it
+  pub synced : SyncedTwice 0 (length rs) later
   -- the run began on a device at rest, or on one with unsynced writes
   pub each : EachMoment form rs made opening later a.device
   pub unsynced : EachMomentUnsynced form rs made opening later a.device

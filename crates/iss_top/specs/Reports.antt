@@ -1,5 +1,5 @@
 -- What a run that reports what stands on a device does, whatever status it ends with.
-use Rattle.std.specs.Prelude.{◌≡◌, ◌⊎◌, ℕ, List, ◌++◌, length, IfErr, Result}
+use Rattle.std.specs.Prelude.{◌≡◌, ◌⊎◌, ℕ, List, [], ◌++◌, length, IfErr, Result}
 use Rattle.iss_edge.specs.declared.status.TheConstants.{DONE, BAD_DEVICE, OUTPUT_FAULT, OUT_OF_MEMORY}
 use Rattle.iss_edge.specs.declared.outside.Action.{Action}
 use Rattle.iss_edge.specs.World.{World, Faults, Later, Rose}
@@ -9,7 +9,8 @@ use Rattle.iss_model.specs.run.Transcripts.{Text, at_level}
 use Rattle.iss_model.specs.texts.BalanceLines.{balance_lines}
 use Rattle.iss_halves.specs.Forms.{Form, Seat}
 use Rattle.iss_standing.specs.Standing.{DeviceStandsFor}
-use Rattle.iss_opening.specs.Opening.{AreOnDevice, ReadsAlone}
+use Rattle.iss_standing.specs.Writes.{device_actions}
+use Rattle.iss_opening.specs.Opening.{AreOnDevice, SyncsFirst, WritesEndGate, ReadsAlone}
 use Rattle.iss_texts.specs.Sending.{emits, GoOut}
 use Rattle.iss_device.specs.Moments.{EndsAtRest}
 use Rattle.iss_top.specs.declared.stop.Stop.{Stop}
@@ -25,15 +26,18 @@ abbrev pub report_texts : List Record → List Text
 report_texts rs = at_level (length rs) (report_lines rs)
 
 -- What a run with this status did on a device that stands for these records. Nothing was taken. First there was an opening, which is on
--- the device alone. Then the lines of the report went out, each by an emit of its own, and at 0 all of them. If the run ended early, the
--- first of them did, and maybe a prefix of the next. At 0, and if the output failed, the device stands for the records. Then, if the run
--- began at rest, the next one begins there. The same holds at 7, unless nothing was done but maybe a sync.
+-- the device alone, and after it nothing was done there. Then the lines of the report went out, each by an emit of its own, and at 0 all of
+-- them. If the run ended early, the first of them did, and maybe a prefix of the next. At 0, and if the output failed, the device stands for
+-- the records. Then, if the run began at rest, the next one begins there. The same holds at 7, unless nothing was done but maybe a sync.
 pub record ReportOn (status : ℕ) (form : Form) (seat : Seat) (rs : List Record) (a b : World) : Type 0 where
   pub left : b.left ≡ a.left
   pub opening : List Action
   pub sent : List Action
   pub grew : b.trace ≡ a.trace ++ (opening ++ sent)
   pub on_device : AreOnDevice opening
+  pub opening_is : SyncsFirst opening
+  pub opening_gate : WritesEndGate form rs a.device opening
+  pub wrote : device_actions sent ≡ []
   pub out : GoOut (report_lines rs) sent
   pub whole : status ≡ DONE → sent ≡ emits (report_lines rs)
   pub stands : (status ≡ DONE) ⊎ (status ≡ OUTPUT_FAULT) → DeviceStandsFor form seat rs b.device

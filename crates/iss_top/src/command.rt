@@ -37,15 +37,16 @@ pub fn run<E: Edge>(alloc: Global, words: &[String], edge: &mut E) -> u8
 
     // A dry run writes the transcript of the input's lines, or a prefix of it: each text by an emit of its own, in their
     // order. If it is stopped by its input, these are the lines that ended before. If the outside isn't at fault, and the
-    // input isn't too long, it comes to its end, or an allocation fails.
-    ensures dry { OnDry (command_in words.now) (DryDoneOn E.faults E.told edge.old edge.new result) }
+    // input isn't too long, it comes to its end, or an allocation fails. Whenever it takes more of its input, all that the
+    // lines are told that ended until then has gone out.
+    ensures dry { OnDry (command_in words.now) (DryDoneOn E.faults E.told E.heard edge.old edge.new result) }
 
     // On a device that stands for records, a run writes the transcript of the lines on them, or a prefix of it. At 0, 3 and
     // 8 the device then stands for those records and the ones that the lines made. A stop leaves the old records and a
     // prefix of the accepted inputs, which holds every input of which a byte went out. A second run continues the first.
     // The status is 4 only if no store can be opened on the device. If neither the outside nor the input's length ends it, it
-    // comes to its end, or an allocation fails.
-    ensures replay { OnReplay (command_in words.now) (ReplayDoneOn E.faults E.told edge.old edge.new result) }
+    // comes to its end, or an allocation fails. It takes more of its input as a dry run does.
+    ensures replay { OnReplay (command_in words.now) (ReplayDoneOn E.faults E.told E.heard edge.old edge.new result) }
 
     // A report writes its lines, each by an emit of its own, or the first of them. Nothing is taken. A stop leaves the
     // records that stood. The rest is as for `replay`.

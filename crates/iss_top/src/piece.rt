@@ -2,8 +2,10 @@
 ghost use Rattle.std.specs.Prelude.{◌≡◌, ◌+◌, ◌<◌, ◌≤◌, true, length, IfOk, IfErr, OnOk, OnErr};
 ghost use Rattle.iss_edge.specs.World.{Told, HasCause, Stays};
 ghost use Rattle.iss_edge.specs.Calls.{Takes, Same};
+ghost use Rattle.iss_edge.specs.Outer.{ToldBoth};
 ghost use Rattle.iss_top.specs.Pieces.{ArePieces, AreFresh, TakesMore, TakesNoMore, unread_of};
 ghost use Rattle.iss_top.specs.Reader.{IsReading};
+ghost use Rattle.iss_top.specs.Hearing.{TakesPiece};
 
 use crate::stop::Stop;
 use iss_edge::{Channel, Edge};
@@ -55,6 +57,7 @@ impl Pieces {
             Told (TakesMore more self.old self.new) (E.told edge.old) (E.told edge.new)) }
         ensures stops { IfErr result (λ stop.
             Told (TakesNoMore self.old.taken stop) (E.told edge.old) (E.told edge.new)) }
+        ensures heard { ToldBoth E.told E.heard TakesPiece edge.old edge.new }
         ensures reading { IsReading (E.faults edge.old) (E.faults edge.new) result }
         ensures kept { Stays E.extent edge.old edge.new }
     {
@@ -102,6 +105,7 @@ fn take_piece<E: Edge>(edge: &mut E, buffer: &mut [u8], room: usize) -> Result<u
         Told (Takes (record { 0 = 0 }) count buffer.new) (E.told edge.old) (E.told edge.new)) }
     ensures unchanged { OnErr result (Told Same (E.told edge.old) (E.told edge.new)) }
     ensures stop { IfErr result (λ stop. stop ≡ Stop.Input) }
+    ensures heard { ToldBoth E.told E.heard TakesPiece edge.old edge.new }
     ensures cause { HasCause (λ f. f.input) (E.faults edge.old) (E.faults edge.new) result }
     ensures kept { Stays E.extent edge.old edge.new }
 {

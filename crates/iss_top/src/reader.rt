@@ -1,8 +1,11 @@
 //! The lines of the input, one after the other.
 ghost use Rattle.std.specs.Prelude.{◌≡◌, ◌+◌, ◌<◌, true, IfOk, IfErr, OnOk};
 ghost use Rattle.iss_edge.specs.World.{Told, Stays};
+ghost use Rattle.iss_edge.specs.Outer.{ToldBoth};
 ghost use Rattle.iss_top.specs.Reader.{ReadsOn, ReadsNoPart, IsReading, Advances, fresh_reader};
 ghost use Rattle.iss_top.specs.AtHand.{IsAtHand, EndsLine, seen_reader, line_of};
+ghost use Rattle.iss_top.specs.Hearing.{ReadsAsHeard};
+ghost use Rattle.iss_top.specs.Pieces.{unread_of};
 
 use crate::buffer::LineBuffer;
 use crate::piece::Pieces;
@@ -59,6 +62,7 @@ impl LineReader {
             Told (ReadsOn more self.old self.new) (E.told edge.old) (E.told edge.new)) }
         ensures stops { IfErr result (λ stop.
             Told (ReadsNoPart self.old stop) (E.told edge.old) (E.told edge.new)) }
+        ensures heard { ToldBoth E.told E.heard (ReadsAsHeard self.old.ended self.old.unread) edge.old edge.new }
         ensures advances { IfOk result (λ more. more ≡ true → Advances self.old self.new) }
         ensures reading { IsReading (E.faults edge.old) (E.faults edge.new) result }
         ensures kept { Stays E.extent edge.old edge.new }
@@ -98,6 +102,7 @@ impl AtHand {
             Told (ReadsOn more (seen_reader self.old) (seen_reader self.new)) (E.told edge.old) (E.told edge.new)) }
         ensures stops { IfErr result (λ stop.
             Told (ReadsNoPart (seen_reader self.old) stop) (E.told edge.old) (E.told edge.new)) }
+        ensures heard { ToldBoth E.told E.heard (ReadsAsHeard self.old.ended (unread_of self.old.pieces)) edge.old edge.new }
         ensures advances { IfOk result (λ more. more ≡ true → Advances (seen_reader self.old) (seen_reader self.new)) }
         ensures reading { IsReading (E.faults edge.old) (E.faults edge.new) result }
         ensures kept { Stays E.extent edge.old edge.new }

@@ -3,10 +3,12 @@
 ghost use Rattle.std.specs.Prelude.{◌≡◌};
 ghost use Rattle.iss_edge.specs.declared.status.TheConstants.{BAD_DEVICE};
 ghost use Rattle.iss_edge.specs.World.{Told};
+ghost use Rattle.iss_edge.specs.Outer.{ToldBoth};
 ghost use Rattle.iss_top.specs.Statuses.{stop_status};
 ghost use Rattle.iss_top.specs.Replaying.{RunsFrom, IsReplayCaused};
 ghost use Rattle.iss_device.specs.Refusals.{RefusesExactly};
 ghost use Rattle.iss_top.specs.Replays.{ReplayRun, EveryMomentStands};
+ghost use Rattle.iss_top.specs.Promptness.{RunsPromptly, RepliesPromptly};
 
 use crate::reader::LineReader;
 use crate::stop::Stop;
@@ -20,6 +22,7 @@ use std::alloc::Global;
 pub(crate) fn replay<E: Edge>(alloc: Global, edge: &mut E) -> Result<(), Stop>
     ensures ran { Told (ReplayRun (stop_status result)) (E.told edge.old) (E.told edge.new) }
     ensures moments { Told EveryMomentStands (E.told edge.old) (E.told edge.new) }
+    ensures prompt { ToldBoth E.told E.heard RepliesPromptly edge.old edge.new }
     ensures refused { Told (RefusesExactly (stop_status result)) (E.told edge.old) (E.told edge.new) }
     ensures caused { IsReplayCaused (E.faults edge.old) (E.faults edge.new) result }
 {
@@ -32,6 +35,7 @@ pub(crate) fn replay<E: Edge>(alloc: Global, edge: &mut E) -> Result<(), Stop>
 fn take_lines<E: Edge>(alloc: Global, opened: Store, edge: &mut E) -> Result<(), Stop>
     requires size { E.extent edge.old ≡ opened.layout.size }
     ensures ran { Told (RunsFrom (stop_status result) opened) (E.told edge.old) (E.told edge.new) }
+    ensures prompt { ToldBoth E.told E.heard (RunsPromptly opened) edge.old edge.new }
     ensures caused { IsReplayCaused (E.faults edge.old) (E.faults edge.new) result }
     ensures no_device { stop_status result ≡ BAD_DEVICE → ⊥ }
 {

@@ -2,7 +2,9 @@
 ghost use Rattle.std.specs.Prelude.{◌≡◌, ◌<◌, IfOk, OnOk, OnErr};
 ghost use Rattle.iss_model.specs.declared.limits.TheConstants.{MOST_RECORDS};
 ghost use Rattle.iss_edge.specs.World.{Told};
+ghost use Rattle.iss_edge.specs.Outer.{ToldBoth};
 ghost use Rattle.iss_top.specs.Progress.{texts_of_line, line_next, IsReplying};
+ghost use Rattle.iss_top.specs.Hearing.{SendsAsHeard};
 ghost use Rattle.iss_texts.specs.Sending.{Says, SaysSome};
 
 use crate::answer::answer;
@@ -26,6 +28,7 @@ pub(crate) fn send_reply<E: Edge>(
     ensures next { IfOk result (λ next. next.state ≡ line_next core.state line.now) }
     ensures told { OnOk result (Told (Says (texts_of_line core.state line.now)) (E.told edge.old) (E.told edge.new)) }
     ensures part { OnErr result (Told (SaysSome (texts_of_line core.state line.now)) (E.told edge.old) (E.told edge.new)) }
+    ensures heard { ToldBoth E.told E.heard SendsAsHeard edge.old edge.new }
     ensures replying { IsReplying (E.faults edge.old) (E.faults edge.new) result }
 {
     if is_blank(line) {

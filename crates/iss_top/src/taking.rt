@@ -1,11 +1,13 @@
 //! What a line does on a store, and what it is told.
 ghost use Rattle.std.specs.Prelude.{◌≡◌, [], ◌∷◌, IfOk, OnOk, OnErr, IsTrue};
 ghost use Rattle.iss_edge.specs.World.{Told, Stays};
+ghost use Rattle.iss_edge.specs.Outer.{ToldBoth};
 ghost use Rattle.iss_model.specs.Forms.{is_in_form, is_stamp, is_stamp_or_none};
 ghost use Rattle.iss_event.specs.FormLines.{form_text};
 ghost use Rattle.iss_texts.specs.Sending.{Says, SaysSome};
 ghost use Rattle.iss_store.specs.Planning.{IsPlanOf};
 ghost use Rattle.iss_store.specs.Routes.{IsLines};
+ghost use Rattle.iss_top.specs.Hearing.{SendsAsHeard, SendsOnBook};
 ghost use Rattle.iss_top.specs.Replaying.{told_line, response_to_line, response_to_plan, texts_left, TakesTo, TakesInPart, IsTaking};
 
 use crate::buffer::is_blank;
@@ -31,6 +33,7 @@ pub(crate) fn take_line<E: Edge>(
     requires lines { IsLines routes.old }
     ensures taken { TakesTo E.told edge.old edge.new (λ s. told_line s line.now) store result }
     ensures part { TakesInPart E.told edge.old edge.new (λ s. told_line s line.now) store result }
+    ensures heard { ToldBoth E.told E.heard (SendsOnBook store) edge.old edge.new }
     ensures taking { IsTaking (E.faults edge.old) (E.faults edge.new) result }
     ensures kept { Stays E.extent edge.old edge.new }
     ensures size { IfOk result (λ next. next.layout.size ≡ store.layout.size) }
@@ -54,6 +57,7 @@ pub(crate) fn take_line<E: Edge>(
 fn tell_fault<E: Edge>(texts: &mut Texts, fault: &FormFault, edge: &mut E) -> Result<(), Stop>
     ensures told { OnOk result (Told (Says (form_text fault.now ∷ [])) (E.told edge.old) (E.told edge.new)) }
     ensures part { OnErr result (Told (SaysSome (form_text fault.now ∷ [])) (E.told edge.old) (E.told edge.new)) }
+    ensures heard { ToldBoth E.told E.heard SendsAsHeard edge.old edge.new }
     ensures taking { IsTaking (E.faults edge.old) (E.faults edge.new) result }
     ensures kept { Stays E.extent edge.old edge.new }
 {
@@ -79,6 +83,7 @@ fn take_input<E: Edge>(
     requires stamp_form { IsTrue (is_stamp_or_none said.now.at) }
     ensures taken { TakesTo E.told edge.old edge.new (response_to_line said.now.input said.now.at) store result }
     ensures part { TakesInPart E.told edge.old edge.new (response_to_line said.now.input said.now.at) store result }
+    ensures heard { ToldBoth E.told E.heard (SendsOnBook store) edge.old edge.new }
     ensures taking { IsTaking (E.faults edge.old) (E.faults edge.new) result }
     ensures kept { Stays E.extent edge.old edge.new }
     ensures size { IfOk result (λ next. next.layout.size ≡ store.layout.size) }
@@ -116,6 +121,7 @@ fn keep<E: Edge>(
     requires plan { IsPlanOf store planned }
     ensures taken { TakesTo E.told edge.old edge.new (response_to_plan planned) store result }
     ensures part { TakesInPart E.told edge.old edge.new (response_to_plan planned) store result }
+    ensures heard { ToldBoth E.told E.heard (SendsOnBook store) edge.old edge.new }
     ensures taking { IsTaking (E.faults edge.old) (E.faults edge.new) result }
     ensures kept { Stays E.extent edge.old edge.new }
     ensures size { IfOk result (λ next. next.layout.size ≡ store.layout.size) }
@@ -140,6 +146,7 @@ fn tell_answer_left<E: Edge>(
     requires stamp_form { IsTrue (is_stamp at) }
     ensures told { OnOk result (Told (Says (texts_left store.now input.now at)) (E.told edge.old) (E.told edge.new)) }
     ensures part { OnErr result (Told (SaysSome (texts_left store.now input.now at)) (E.told edge.old) (E.told edge.new)) }
+    ensures heard { ToldBoth E.told E.heard SendsAsHeard edge.old edge.new }
     ensures taking { IsTaking (E.faults edge.old) (E.faults edge.new) result }
     ensures kept { Stays E.extent edge.old edge.new }
     ensures lines { IsLines routes.new }

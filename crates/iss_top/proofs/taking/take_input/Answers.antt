@@ -1,10 +1,43 @@
 use Rattle.std.proofs.Common.{◌≡◌, Err, sym, subst, ◌∙◌, rules}
 use Rattle.iss_edge.specs.World.{Told}
+use Rattle.iss_edge.specs.Outer.{outer_of}
 use Rattle.iss_opening.specs.Values.{StoreNow}
+use Rattle.iss_top.specs.Hearing.{SendsOnBook}
 use Rattle.iss_top.specs.Replaying.{IsOfDisk, TakesAs, TakesPartAs, response_to_plan}
 use Rattle.iss_top.proofs.Lasting.{anyway}
 use Rattle.iss_top.proofs.Taken.{told_input, told_nothing_taken, told_answer, told_answer_part, told_taken_new, told_taken_clock, told_clock_part, told_failed}
+use Rattle.iss_top.proofs.ToldHears.{told_says_lines, told_on_book, told_on_book_then}
 use Rattle.iss_top.proofs.taking.take_input.Goals as goal
+
+pub returns-in_err-next-in-Ok-clause-heard : goal.returns-in_err-next-in-Ok-clause-heard
+returns-in_err-next-in-Ok-clause-heard g c =
+    subst (λ (s : StoreNow). Told (SendsOnBook s) (outer_of (g.E.Edge.told c.args.edge.now) (g.E.Edge.heard c.args.edge.now)) (outer_of (g.E.Edge.told c.keep.new.edge) (g.E.Edge.heard c.keep.new.edge))) c.plan.ensures.kept c.in_err-next-in-Ok.ensures.heard
+
+pub returns-then-not-more-clause-heard : goal.returns-then-not-more-clause-heard
+returns-then-not-more-clause-heard g c =
+    subst (λ (s : StoreNow). Told (SendsOnBook s) (outer_of (g.E.Edge.told c.args.edge.now) (g.E.Edge.heard c.args.edge.now)) (outer_of (g.E.Edge.told c.keep.new.edge) (g.E.Edge.heard c.keep.new.edge))) c.plan.ensures.kept c.in_ok-next-in-Ok.ensures.heard
+
+pub returns-in_err-tell_answer_left-in-Ok-clause-heard : goal.returns-in_err-tell_answer_left-in-Ok-clause-heard
+returns-in_err-tell_answer_left-in-Ok-clause-heard g c =
+    told_on_book_then c.args.store (outer_of (g.E.Edge.told c.args.edge.now) (g.E.Edge.heard c.args.edge.now)) (outer_of (g.E.Edge.told c.keep.new.edge) (g.E.Edge.heard c.keep.new.edge)) (outer_of (g.E.Edge.told c.tell_answer_left.new.edge) (g.E.Edge.heard c.tell_answer_left.new.edge))
+    (subst (λ (s : StoreNow). Told (SendsOnBook s) (outer_of (g.E.Edge.told c.args.edge.now) (g.E.Edge.heard c.args.edge.now)) (outer_of (g.E.Edge.told c.keep.new.edge) (g.E.Edge.heard c.keep.new.edge))) c.plan.ensures.kept c.in_ok-next-in-Ok.ensures.heard)
+    c.in_err-tell_answer_left-in-Ok.ensures.heard
+
+pub returns-in_ok-tell_answer_left-in-Ok-clause-heard : goal.returns-in_ok-tell_answer_left-in-Ok-clause-heard
+returns-in_ok-tell_answer_left-in-Ok-clause-heard g c =
+    told_on_book_then c.args.store (outer_of (g.E.Edge.told c.args.edge.now) (g.E.Edge.heard c.args.edge.now)) (outer_of (g.E.Edge.told c.keep.new.edge) (g.E.Edge.heard c.keep.new.edge)) (outer_of (g.E.Edge.told c.tell_answer_left.new.edge) (g.E.Edge.heard c.tell_answer_left.new.edge))
+    (subst (λ (s : StoreNow). Told (SendsOnBook s) (outer_of (g.E.Edge.told c.args.edge.now) (g.E.Edge.heard c.args.edge.now)) (outer_of (g.E.Edge.told c.keep.new.edge) (g.E.Edge.heard c.keep.new.edge))) c.plan.ensures.kept c.in_ok-next-in-Ok.ensures.heard)
+    c.in_ok-tell_answer_left-in-Ok.ensures.heard
+
+pub returns-in_err-tell-in-Err-Told-clause-heard : goal.returns-in_err-tell-in-Err-Told-clause-heard
+returns-in_err-tell-in-Err-Told-clause-heard g c =
+    told_on_book c.args.store (outer_of (g.E.Edge.told c.args.edge.now) (g.E.Edge.heard c.args.edge.now)) (outer_of (g.E.Edge.told c.tell.new.edge) (g.E.Edge.heard c.tell.new.edge))
+    (told_says_lines g.E.Edge.told g.E.Edge.heard g.E.Edge.channels c.args.edge.now c.tell.new.edge _ _ _ _ (c.in_err-tell-in-Err-Told.ensures.lines c.requires.lines) c.in_err-tell-in-Err-Told.ensures.cause)
+
+pub returns-in_ok-tell-in-Err-Told-clause-heard : goal.returns-in_ok-tell-in-Err-Told-clause-heard
+returns-in_ok-tell-in-Err-Told-clause-heard g c =
+    told_on_book c.args.store (outer_of (g.E.Edge.told c.args.edge.now) (g.E.Edge.heard c.args.edge.now)) (outer_of (g.E.Edge.told c.tell.new.edge) (g.E.Edge.heard c.tell.new.edge))
+    (told_says_lines g.E.Edge.told g.E.Edge.heard g.E.Edge.channels c.args.edge.now c.tell.new.edge _ _ _ _ (c.in_ok-tell-in-Err-Told.ensures.lines c.requires.lines) c.in_ok-tell-in-Err-Told.ensures.cause)
 
 pub returns-in_err-next-in-Ok-clause-part : goal.returns-in_err-next-in-Ok-clause-part
 returns-in_err-next-in-Ok-clause-part g c =

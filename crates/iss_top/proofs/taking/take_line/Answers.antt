@@ -1,10 +1,28 @@
 use Rattle.std.proofs.Common.{sym, ◌∙◌}
 use Rattle.std.proofs.lemmas.Result.{IfOk-weaker}
 use Rattle.iss_edge.specs.World.{Told}
+use Rattle.iss_edge.specs.Outer.{outer_of}
 use Rattle.iss_top.specs.Replaying.{IsOfDisk, TakesPartAs}
 use Rattle.iss_top.proofs.Lasting.{anyway, if_err_weaker}
 use Rattle.iss_top.proofs.TakenLines.{line_told, told_blank_line, told_fault_line, told_fault_part, told_read_line, told_read_part, told_no_line}
+use Rattle.iss_top.proofs.ToldHears.{told_on_book, told_on_book_none}
 use Rattle.iss_top.proofs.taking.take_line.Goals as goal
+
+pub returns-in_err-tell_fault-in-Err-Form-clause-heard : goal.returns-in_err-tell_fault-in-Err-Form-clause-heard
+returns-in_err-tell_fault-in-Err-Form-clause-heard g c =
+    told_on_book c.args.store (outer_of (g.E.Edge.told c.args.edge.now) (g.E.Edge.heard c.args.edge.now)) (outer_of (g.E.Edge.told c.tell_fault.new.edge) (g.E.Edge.heard c.tell_fault.new.edge)) c.in_err-tell_fault-in-Err-Form.ensures.heard
+
+pub returns-in_ok-tell_fault-in-Err-Form-clause-heard : goal.returns-in_ok-tell_fault-in-Err-Form-clause-heard
+returns-in_ok-tell_fault-in-Err-Form-clause-heard g c =
+    told_on_book c.args.store (outer_of (g.E.Edge.told c.args.edge.now) (g.E.Edge.heard c.args.edge.now)) (outer_of (g.E.Edge.told c.tell_fault.new.edge) (g.E.Edge.heard c.tell_fault.new.edge)) c.in_ok-tell_fault-in-Err-Form.ensures.heard
+
+pub returns-then-is_blank-clause-heard : goal.returns-then-is_blank-clause-heard
+returns-then-is_blank-clause-heard g c =
+    told_on_book_none c.args.store (outer_of (g.E.Edge.told c.args.edge.now) (g.E.Edge.heard c.args.edge.now))
+
+pub returns-in-Err-OutOfMemory-clause-heard : goal.returns-in-Err-OutOfMemory-clause-heard
+returns-in-Err-OutOfMemory-clause-heard g c =
+    told_on_book_none c.args.store (outer_of (g.E.Edge.told c.args.edge.now) (g.E.Edge.heard c.args.edge.now))
 
 pub returns-then-is_blank-clause-taken : goal.returns-then-is_blank-clause-taken
 returns-then-is_blank-clause-taken g c =

@@ -1,5 +1,6 @@
 use Rattle.std.proofs.Common.{◌≡◌, ℕ, List, true, false, Some, Err, length, fold, refl, ap, subst, ◌∙◌, arith, rules}
 use Rattle.memchr.specs.Find.{IsFirstByte, is_byte}
+use Rattle.iss_edge.specs.Outer.{outer_of}
 use Rattle.iss_edge.proofs.Tolds.{later_self, later_then}
 use Rattle.iss_top.specs.declared.reader.AtHand.{AtHand}
 use Rattle.iss_top.specs.Lines.{has_line_feed, kept_with}
@@ -8,6 +9,7 @@ use Rattle.iss_top.specs.AtHand.{seen_reader}
 use Rattle.iss_top.proofs.Finding.{found_none}
 use Rattle.iss_top.proofs.Hands.{line_advances, last_advances, line_is_kept, room_so_far}
 use Rattle.iss_top.proofs.ToldReading.{told_so_far_begins, told_so_far_more, told_part_ends, told_part_is_last, told_part_stops}
+use Rattle.iss_top.proofs.ToldHears.{told_reads_begins, told_reads_more}
 use Rattle.iss_top.proofs.reader.AtHand.read_line.Goals as goal
 
 pub pieces-init : goal.pieces-init
@@ -19,10 +21,15 @@ pieces-init g c =
       end = refl;
       going = c.if-self.false;
       read = told_so_far_begins (unread_of pieces) c.clear.new.self pieces.taken (g.E.Edge.told c.args.edge.now) c.clear.ensures;
+      heard = told_reads_begins c.args.self.now.ended (unread_of c.args.self.now.pieces) (outer_of (g.E.Edge.told c.args.edge.now) (g.E.Edge.heard c.args.edge.now));
       room = omega (arith, ap (λ (l : List ℕ). length l) c.clear.ensures);
       later = later_self (g.E.Edge.faults c.args.edge.now);
       extent = refl;
     }
+
+pub returns-then-self-clause-heard : goal.returns-then-self-clause-heard
+returns-then-self-clause-heard g c =
+    told_reads_begins c.args.self.now.ended (unread_of c.args.self.now.pieces) (outer_of (g.E.Edge.told c.args.edge.now) (g.E.Edge.heard c.args.edge.now))
 
 pub returns-in-Some-clause-reads : goal.returns-in-Some-clause-reads
 returns-in-Some-clause-reads g c =
@@ -46,6 +53,22 @@ returns-in_err-take_more-clause-stops g c =
     (g.E.Edge.told c.args.edge.now) (g.E.Edge.told c.pieces.edge) (g.E.Edge.told c.take_more.new.edge)
     c.if-self.false c.requires.fit.pieces.limit c.pieces.invariant.fit.pieces.limit none c.pieces.invariant.read c.in_err-take_more.ensures.stops
     )
+
+pub returns-in_err-take_more-clause-heard : goal.returns-in_err-take_more-clause-heard
+returns-in_err-take_more-clause-heard g c =
+    let none = subst (λ (l : List ℕ). has_line_feed l ≡ false) c.unread.ensures (found_none c.unread.result.now c.in_default.ensures) in
+    told_reads_more c.args.self.now.ended (unread_of c.args.self.now.pieces) c.args.self.now.pieces.taken (unread_of c.pieces.self.pieces) c.pieces.self.kept c.pieces.self.pieces.taken
+    (g.E.Edge.told c.args.edge.now) (g.E.Edge.told c.pieces.edge) (g.E.Edge.told c.take_more.new.edge)
+    (g.E.Edge.heard c.args.edge.now) (g.E.Edge.heard c.pieces.edge) (g.E.Edge.heard c.take_more.new.edge)
+    c.if-self.false none c.pieces.invariant.read c.pieces.invariant.heard c.in_err-take_more.ensures.heard
+
+pub returns-then-not-branch-clause-heard : goal.returns-then-not-branch-clause-heard
+returns-then-not-branch-clause-heard g c =
+    let none = subst (λ (l : List ℕ). has_line_feed l ≡ false) c.unread.ensures (found_none c.unread.result.now c.in_default.ensures) in
+    told_reads_more c.args.self.now.ended (unread_of c.args.self.now.pieces) c.args.self.now.pieces.taken (unread_of c.pieces.self.pieces) c.pieces.self.kept c.pieces.self.pieces.taken
+    (g.E.Edge.told c.args.edge.now) (g.E.Edge.told c.pieces.edge) (g.E.Edge.told c.take_more.new.edge)
+    (g.E.Edge.heard c.args.edge.now) (g.E.Edge.heard c.pieces.edge) (g.E.Edge.heard c.take_more.new.edge)
+    c.if-self.false none c.pieces.invariant.read c.pieces.invariant.heard c.in_ok-take_more.ensures.heard
 
 pub returns-then-not-branch-clause-reads : goal.returns-then-not-branch-clause-reads
 returns-then-not-branch-clause-reads g c =
@@ -84,6 +107,11 @@ pieces-preserved g c =
       read =
           told_so_far_more c.in_ok-take_more.field-0 (unread_of start) start.taken p q c.pieces.self.kept c.extend.new.self
           (g.E.Edge.told c.args.edge.now) (g.E.Edge.told c.pieces.edge) (g.E.Edge.told c.take_more.new.edge) none is c.pieces.invariant.read c.in_ok-take_more.ensures.takes;
+      heard =
+          told_reads_more c.args.self.now.ended (unread_of c.args.self.now.pieces) c.args.self.now.pieces.taken (unread_of c.pieces.self.pieces) c.pieces.self.kept c.pieces.self.pieces.taken
+          (g.E.Edge.told c.args.edge.now) (g.E.Edge.told c.pieces.edge) (g.E.Edge.told c.take_more.new.edge)
+          (g.E.Edge.heard c.args.edge.now) (g.E.Edge.heard c.pieces.edge) (g.E.Edge.heard c.take_more.new.edge)
+          c.if-self.false none c.pieces.invariant.read c.pieces.invariant.heard c.in_ok-take_more.ensures.heard;
       room =
           room_so_far c.pieces.self.kept c.extend.new.self (unread_of p) (unread_of q) (length (unread_of start)) start.taken p.taken q.taken is c.in_ok-take_more.ensures.count
           c.pieces.invariant.room;
